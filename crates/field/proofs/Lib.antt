@@ -1,0 +1,3 @@
+pub mod Tables
+pub mod Codes
+pub mod Sums

@@ -1,0 +1,26 @@
+-- Lists made from a function of the index.
+use mathlib.Core.Path.{_≡_, sym, _∙_}
+use mathlib.Core.List.{List}
+use Prim.Native.Nat.{ℕ, _<_}
+use native.Mathlib.Omega.{arith}
+use lib.ListN.{length, getD}
+use Rattle.std.proofs.shelf.Counted.{length-map-counting, getD-map-counting, fill-by-all}
+use Rattle.field.specs.Convolution.{tabulate}
+
+module _ {C : Type 0} where
+  pub length-tabulate : (n : ℕ) (f : ℕ → C) → length (tabulate n f) ≡ n
+  unfolding tabulate
+  length-tabulate n f = length-map-counting f 0 n
+
+  pub getD-tabulate : (n : ℕ) (f : ℕ → C) (d : C) (k : ℕ) → k < n → getD (tabulate n f) k d ≡ f k
+  unfolding tabulate
+  getD-tabulate n f d k h = getD-map-counting f 0 n k k d h (omega arith)
+
+  -- a list that holds f k at each place k
+  pub tabulate-is : (n : ℕ) (f : ℕ → C) (a : List C) (d : C) → length a ≡ n → ((k : ℕ) → k < n → getD a k d ≡ f k) → a ≡ tabulate n f
+  unfolding tabulate
+  tabulate-is n f a d h e = fill-by-all f a n d h e
+
+  -- functions that agree below n make one list
+  pub tabulate-ext : (n : ℕ) (f g : ℕ → C) → ((k : ℕ) → k < n → f k ≡ g k) → tabulate n f ≡ tabulate n g
+  tabulate-ext n f g e = tabulate-is n g (tabulate n f) (f 0) (length-tabulate n f) (λ k h. getD-tabulate n f (f 0) k h ∙ e k h)
