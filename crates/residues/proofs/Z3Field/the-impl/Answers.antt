@@ -1,0 +1,10 @@
+use lib.Dec.{lit≤}
+use Rattle.residues.proofs.Residues.{residues-lawful}
+use Rattle.residues.proofs.Reciprocals.{inverts-3}
+use Rattle.residues.proofs.Z3Field.the-impl.Needs as need
+
+pub lawful-law : need.lawful-law
+lawful-law = residues-lawful 3 (lit≤ tt) (lit≤ tt)
+
+pub inverts-law : need.inverts-law
+inverts-law = inverts-3
