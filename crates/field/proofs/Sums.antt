@@ -1,5 +1,5 @@
 -- Sums over an index, and the coefficients of a product.
--- Main results: `sum-first` and `sum-rest`, `coefficient-none`, `coefficient-first` and `coefficient-more`.
+-- Main results: `sum-first` and `sum-rest`, `coefficient-none`, `coefficient-first` and `coefficient-more`, `at-convolution`.
 use mathlib.Core.Path.{_≡_, refl, sym, ap, ap₂, _∙_, fun-ext}
 use mathlib.Core.List.{List, [], _∷_}
 use mathlib.Core.Logic.{_⊎_, inl, inr}
@@ -9,7 +9,8 @@ use lib.ListN.{length, getD}
 use Rattle.std.proofs.shelf.Lists.{getD-past}
 use Rattle.std.proofs.shelf.Tests.{cases-lt}
 use Rattle.field.specs.Rings.{Operations, CommutativeRing, Normal}
-use Rattle.field.specs.Convolution.{at, sumBelow, coefficient}
+use Rattle.field.specs.Convolution.{at, sumBelow, coefficient, convolution}
+use Rattle.field.proofs.Tables.{length-tabulate, getD-tabulate}
 
 module _ {C : Type 0} {O : Operations C} (R : CommutativeRing O) where
   pub zero-normal : Normal O (O .zero)
@@ -66,4 +67,19 @@ module _ {C : Type 0} {O : Operations C} (R : CommutativeRing O) where
   coefficient-sum a b k n h e = elim e [
     | inl l ↦ sum-rest n (suc k) _ h (λ i m. ap₂ (O .times) (getD-past a i (O .zero) (omega arith)) refl ∙ R .zero-times _)
     | inr s ↦ ap (λ m. sumBelow O m (λ i. O .times (at O a i) (at O b (k - i)))) (sym s)
+  ]
+
+  -- past the end of a product
+  pub coefficient-past : (a b : List C) (k : ℕ) → length a + length b ≤ k + 1 → coefficient O a b k ≡ O .zero
+  unfolding coefficient
+  coefficient-past a b k h = sum-zeros (suc k) _ (λ i. elim (cases-lt i (length a)) [
+    | inl l ↦ ap (O .times _) (getD-past b (k - i) (O .zero) (omega arith)) ∙ times-zero _
+    | inr l ↦ ap₂ (O .times) (getD-past a i (O .zero) l) refl ∙ R .zero-times _
+  ])
+
+  -- a list long enough for the whole product holds each of its coefficients
+  pub at-convolution : (a b : List C) (n : ℕ) → length a + length b ≤ n + 1 → (k : ℕ) → at O (convolution O n a b) k ≡ coefficient O a b k
+  at-convolution a b n h k = elim (cases-lt k n) [
+    | inl l ↦ getD-tabulate n (coefficient O a b) (O .zero) k l
+    | inr l ↦ getD-past (convolution O n a b) k (O .zero) (omega (arith, length-tabulate n (coefficient O a b))) ∙ sym (coefficient-past a b k (omega arith))
   ]

@@ -1,7 +1,7 @@
 -- Lists made from a function of the index.
-use mathlib.Core.Path.{_≡_, sym, _∙_}
-use mathlib.Core.List.{List}
-use Prim.Native.Nat.{ℕ, _<_}
+use mathlib.Core.Path.{_≡_, refl, sym, ap, _∙_}
+use mathlib.Core.List.{List, [], _∷_}
+use Prim.Native.Nat.{ℕ, zero, suc, _<_}
 use native.Mathlib.Omega.{arith}
 use lib.ListN.{length, getD}
 use Rattle.std.proofs.shelf.Counted.{length-map-counting, getD-map-counting, fill-by-all}
@@ -24,3 +24,15 @@ module _ {C : Type 0} where
   -- functions that agree below n make one list
   pub tabulate-ext : (n : ℕ) (f g : ℕ → C) → ((k : ℕ) → k < n → f k ≡ g k) → tabulate n f ≡ tabulate n g
   tabulate-ext n f g e = tabulate-is n g (tabulate n f) (f 0) (length-tabulate n f) (λ k h. getD-tabulate n f (f 0) k h ∙ e k h)
+
+  -- the first of n + 1 values by itself
+  pub tabulate-more : (n : ℕ) (f : ℕ → C) → tabulate (suc n) f ≡ f 0 ∷ tabulate n (λ k. f (suc k))
+  tabulate-more n f = sym (tabulate-is (suc n) f _ (f 0) (ap suc (length-tabulate n _)) go)
+    where
+      go : (k : ℕ) → k < suc n → getD (f 0 ∷ tabulate n (λ i. f (suc i))) k (f 0) ≡ f k
+      go zero h = refl
+      go (suc k) h = getD-tabulate n _ _ k (omega arith)
+
+  pub tabulate-none : (f : ℕ → C) → tabulate 0 f ≡ []
+  unfolding tabulate
+  tabulate-none f = refl

@@ -6,9 +6,10 @@
 
 ghost use mathlib.Core.Path.{_≡_};
 ghost use Prim.Native.Nat.{ℕ};
+ghost use lib.Dec.{ltb};
 ghost use lib.ListN.{length, getD};
 ghost use Rattle.std.specs.declared.option.Option.{Option};
-ghost use Rattle.field.specs.Meaning.{Arithmetic, ArithmeticLaws, ReciprocalLaws, code, coded};
+ghost use Rattle.field.specs.Meaning.{Arithmetic, ArithmeticLaws, ReciprocalLaws, code, coded, allCodes};
 ghost use Rattle.field.specs.Convolution.{coefficient, convolution, mixed};
 
 /// A finite field by its meaning: the size and four functions on codes, and the laws that they keep.
@@ -85,4 +86,22 @@ fn at(a: &[u16], k: usize) -> u16
     ensures { λ r. ⌜ r ≡ getD (now (a .entry)) k 0 ⌝ }
 {
     if k < a.len() { a[k] } else { 0 }
+}
+
+/// Whether a number is a code.
+pub fn is_code<F: Field>(a: u16) -> bool
+    ensures { λ r. ⌜ r ≡ ltb a (F·Field .arithmetic .size) ⌝ }
+{
+    a < F::size()
+}
+
+/// Whether each number of a list is a code. Every number is looked at, whatever was found before.
+pub fn all_codes<F: Field>(a: &[u16]) -> bool
+    ensures { λ r. ⌜ r ≡ allCodes (F·Field .arithmetic .size) (now (a .entry)) ⌝ }
+{
+    let mut all = true;
+    for x in a {
+        all = all & is_code::<F>(*x);
+    }
+    all
 }

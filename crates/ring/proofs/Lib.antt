@@ -1,0 +1,4 @@
+pub mod Horner
+pub mod Polynomials
+pub mod Units
+pub mod Laws

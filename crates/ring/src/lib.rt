@@ -1,7 +1,5 @@
-ghost use Rattle.ring.specs.Laws.{RingLaws};
-ghost use Rattle.field.specs.Meaning.{Arithmetic};
-ghost use Rattle.ring.specs.Asked.{operandsAsked};
+//! Polynomials modulo x^p − x − 1 over any field: p codes, the constant first.
 
-pub fn dummy() -> u8 {
-    0
-}
+pub mod arithmetic;
+pub mod questions;
+pub mod theorems;
