@@ -2,23 +2,14 @@
 -- Main results: `code-of`, `code-below`, `all-codes-at`, `coded-ring`.
 use mathlib.Core.Path.{_≡_, refl, sym, ap, ap₂, _∙_, subst}
 use mathlib.Core.Bool.{Bool, true, false, _&&_}
-use mathlib.Core.List.{List, [], _∷_, _++_}
-use Prim.Native.Nat.{ℕ, zero, suc, _+_, _<_, _≤_}
+use mathlib.Core.List.{List, [], _∷_}
+use Prim.Native.Nat.{ℕ, zero, suc, _<_, _≤_}
 use native.Mathlib.Omega.{arith}
 use lib.Dec.{ltb}
-use lib.ListN.{length, getD, take}
-use Rattle.std.proofs.shelf.Lists.{take-more}
+use lib.ListN.{length, getD}
 use Rattle.std.proofs.shelf.Tests.{lt-ltb, cond-true, cond-both, ltb-true}
 use Rattle.field.specs.Rings.{Operations, CommutativeRing, Normal}
 use Rattle.field.specs.Meaning.{Arithmetic, Code, ArithmeticLaws, code, coded, allCodes}
-
-and-true : (b : Bool) → (b && true) ≡ b
-and-true true = refl
-and-true false = refl
-
-and-assoc : (a b c : Bool) → ((a && b) && c) ≡ (a && (b && c))
-and-assoc true b c = refl
-and-assoc false b c = refl
 
 and-left : (a b : Bool) → (a && b) ≡ true → a ≡ true
 and-left true b e = refl
@@ -40,21 +31,26 @@ code-zero s = cond-both (ltb 0 s) 0 0 (λ x. x ≡ 0) (λ e. refl) (λ e. refl)
 pub code-code : (s n : ℕ) → code s (code s n) ≡ code s n
 code-code s n = cond-both (ltb n s) n 0 (λ x. code s x ≡ x) (λ e. cond-true (ltb n s) n 0 e) (λ e. code-zero s)
 
--- one number more
-pub all-codes-more : (s : ℕ) (xs : List ℕ) (i : ℕ) → i < length xs → allCodes s (take (i + 1) xs) ≡ (allCodes s (take i xs) && ltb (getD xs i 0) s)
-unfolding allCodes
-all-codes-more s xs i h = ap (allCodes s) (take-more xs i 0 h) ∙ push (take i xs) (getD xs i 0)
-  where
-    push : (ys : List ℕ) (y : ℕ) → allCodes s (ys ++ y ∷ []) ≡ (allCodes s ys && ltb y s)
-    push [] y = and-true (ltb y s)
-    push (x ∷ ys) y = ap (λ b. ltb x s && b) (push ys y) ∙ sym (and-assoc (ltb x s) (allCodes s ys) (ltb y s))
-
 -- the test says that each number is a code
 pub all-codes-at : (s : ℕ) (xs : List ℕ) → allCodes s xs ≡ true → (k : ℕ) → k < length xs → getD xs k 0 < s
 unfolding allCodes
 all-codes-at s [] e k h = absurd (omega arith)
 all-codes-at s (x ∷ xs) e zero h = ltb-true x s (and-left (ltb x s) (allCodes s xs) e)
 all-codes-at s (x ∷ xs) e (suc k) h = all-codes-at s xs (and-right (ltb x s) (allCodes s xs) e) k (omega arith)
+
+pub all-codes-from : (s : ℕ) (xs : List ℕ) → ((k : ℕ) → k < length xs → getD xs k 0 < s) → allCodes s xs ≡ true
+unfolding allCodes
+all-codes-from s [] h = refl
+all-codes-from s (x ∷ xs) h = ap₂ _&&_ (lt-ltb x s (h 0 (omega arith))) (all-codes-from s xs (λ k l. h (suc k) (omega arith)))
+
+same-truth : (a b : Bool) → (a ≡ true → b ≡ true) → (b ≡ true → a ≡ true) → a ≡ b
+same-truth true b f g = sym (f refl)
+same-truth false true f g = g refl
+same-truth false false f g = refl
+
+-- a test that passes exactly where each number is a code
+pub all-codes-is : (s : ℕ) (xs : List ℕ) (b : Bool) → (b ≡ true → (k : ℕ) → k < length xs → getD xs k 0 < s) → (((k : ℕ) → k < length xs → getD xs k 0 < s) → b ≡ true) → b ≡ allCodes s xs
+all-codes-is s xs b f g = same-truth b (allCodes s xs) (λ e. all-codes-from s xs (f e)) (λ e. g (all-codes-at s xs e))
 
 module _ {A : Arithmetic} (L : ArithmeticLaws A) where
   pub read-code : (n : ℕ) → Code A (code (A .size) n)

@@ -4,6 +4,7 @@ use mathlib.Core.Path.{_≡_, refl, sym, ap, ap₂, _∙_, fun-ext}
 use mathlib.Core.List.{List, [], _∷_}
 use mathlib.Core.Logic.{_⊎_, inl, inr}
 use Prim.Native.Nat.{ℕ, zero, suc, _+_, _-_, _<_, _≤_}
+use native.Mathlib.Numerals.{add-one}
 use native.Mathlib.Omega.{arith}
 use lib.ListN.{length, getD}
 use Rattle.std.proofs.shelf.Lists.{getD-past}
@@ -11,6 +12,11 @@ use Rattle.std.proofs.shelf.Tests.{cases-lt}
 use Rattle.field.specs.Rings.{Operations, CommutativeRing, Normal}
 use Rattle.field.specs.Convolution.{at, sumBelow, coefficient, convolution}
 use Rattle.field.proofs.Tables.{length-tabulate, getD-tabulate}
+
+-- one term more, as a loop adds it
+pub sum-more : {C : Type 0} (O : Operations C) (n : ℕ) (t : ℕ → C) (x y : C) → x ≡ sumBelow O n t → y ≡ O .plus x (t n) → y ≡ sumBelow O (n + 1) t
+unfolding sumBelow
+sum-more O n t x y e f = f ∙ ap₂ (O .plus) e refl ∙ ap (λ m. sumBelow O m t) (sym (add-one n))
 
 module _ {C : Type 0} {O : Operations C} (R : CommutativeRing O) where
   pub zero-normal : Normal O (O .zero)
@@ -61,12 +67,13 @@ module _ {C : Type 0} {O : Operations C} (R : CommutativeRing O) where
       let next : (i : ℕ) → suc k - suc i ≡ k - i = λ i. omega arith in
       sum-first (suc k) _ ∙ ap₂ (O .plus) (ap (λ j. O .times x (at O b j)) here) (ap (sumBelow O (suc k)) (fun-ext (λ i. ap (λ j. O .times (at O a i) (at O b j)) (next i))))
 
-  -- the first n terms are all of them, where a or k ends there
-  pub coefficient-sum : (a b : List C) (k n : ℕ) → n ≤ suc k → (length a ≤ n) ⊎ (n ≡ suc k) → coefficient O a b k ≡ sumBelow O n (λ i. O .times (at O a i) (at O b (k - i)))
+  -- the first n terms are all of them, where k or a ends there
+  pub coefficient-sum : (a b : List C) (k n : ℕ) → n ≤ k + 1 → (n < k + 1 → n ≡ length a) → coefficient O a b k ≡ sumBelow O n (λ i. O .times (at O a i) (at O b (k - i)))
   unfolding coefficient
-  coefficient-sum a b k n h e = elim e [
-    | inl l ↦ sum-rest n (suc k) _ h (λ i m. ap₂ (O .times) (getD-past a i (O .zero) (omega arith)) refl ∙ R .zero-times _)
-    | inr s ↦ ap (λ m. sumBelow O m (λ i. O .times (at O a i) (at O b (k - i)))) (sym s)
+  coefficient-sum a b k n h e = elim (cases-lt n (suc k)) [
+    | inl l ↦ let whole : n ≡ length a = e (omega arith) in
+        sum-rest n (suc k) _ (omega arith) (λ i m. ap₂ (O .times) (getD-past a i (O .zero) (omega arith)) refl ∙ R .zero-times _)
+    | inr l ↦ let all : suc k ≡ n = omega arith in ap (λ m. sumBelow O m (λ i. O .times (at O a i) (at O b (k - i)))) all
   ]
 
   -- past the end of a product

@@ -5,7 +5,7 @@
 //! proved from its laws alone.
 
 ghost use mathlib.Core.Path.{_≡_};
-ghost use Prim.Native.Nat.{ℕ};
+ghost use Prim.Native.Nat.{ℕ, _+_, _<_, _≤_};
 ghost use lib.Dec.{ltb};
 ghost use lib.ListN.{length, getD};
 ghost use Rattle.std.specs.declared.option.Option.{Option};
@@ -46,9 +46,8 @@ pub trait Field {
     fn coefficient(a: &[u16], b: &[u16], k: usize) -> u16
         ensures { λ r. ⌜ r ≡ coefficient (coded arithmetic) (now (a .entry)) (now (b .entry)) k ⌝ }
     {
-        let terms = if k < a.len() { k + 1 } else { a.len() };
         let mut sum = 0;
-        for i in 0..terms {
+        for i in 0..terms(a.len(), k) {
             sum = Self::add(sum, Self::mul(a[i], at(b, k - i)));
         }
         sum
@@ -79,6 +78,15 @@ pub trait Field {
             a[k] = Self::sub(Self::mul(c, a[k]), Self::mul(d, at(b, k)));
         }
     }
+}
+
+/// How many terms coefficient k of a product has, where the first list has `len` coefficients.
+fn terms(len: usize, k: usize) -> usize
+    ensures within { λ r. ⌜ r ≤ len ⌝ }
+    ensures reached { λ r. ⌜ r ≤ k + 1 ⌝ }
+    ensures whole { λ r. ⌜ (r < k + 1 → r ≡ len) ⌝ }
+{
+    if k < len { k + 1 } else { len }
 }
 
 /// Coefficient k of a list, which past the end is 0.

@@ -8,6 +8,7 @@ use table::RECIPROCALS_4591;
 
 mod residue;
 mod table;
+mod wide;
 
 /// The integers modulo 3. Its codes 0, 1, 2 stand for 0, 1, −1 and are called trits.
 pub struct Z3;
@@ -35,6 +36,14 @@ pub impl Field for Z3 as Z3Field {
 
     fn reciprocal(a: u16) -> Option<u16> {
         residue::reciprocal::<3>(&RECIPROCALS_3, a)
+    }
+
+    fn product(a: &[u16], b: &[u16], out: &mut [u16]) {
+        if wide::fits(a, b, out) {
+            wide::product::<3>(a, b, out);
+        } else {
+            Self::product_by_terms(a, b, out);
+        }
     }
 }
 
@@ -93,5 +102,13 @@ pub impl Field for Z4591 as Z4591Field {
 
     fn reciprocal(a: u16) -> Option<u16> {
         residue::reciprocal::<4591>(&RECIPROCALS_4591, a)
+    }
+
+    fn product(a: &[u16], b: &[u16], out: &mut [u16]) {
+        if wide::fits(a, b, out) {
+            wide::product::<4591>(a, b, out);
+        } else {
+            Self::product_by_terms(a, b, out);
+        }
     }
 }

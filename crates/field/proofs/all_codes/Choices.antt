@@ -1,7 +1,11 @@
 use mathlib.Core.Path.{_≡_}
-use lib.ListN.{take}
-use Rattle.field.specs.Meaning.{allCodes}
+use mathlib.Core.Bool.{true}
+use Prim.Native.Nat.{ℕ, _<_}
+use lib.ListN.{getD}
 use Rattle.field.proofs.all_codes.Given as given
 
+-- each number so far is a code, exactly if `all` says so
 abbrev pub Inv-loop-x : given.InvT-loop-x
-Inv-loop-x g l = l .all ≡ allCodes (g .F·Field .arithmetic .size) (take (l .x-index) (l .a))
+Inv-loop-x g l =
+    (l .all ≡ true → (k : ℕ) → k < l .x-index → getD (l .a) k 0 < g .F·Field .arithmetic .size)
+    × (((k : ℕ) → k < l .x-index → getD (l .a) k 0 < g .F·Field .arithmetic .size) → l .all ≡ true)

@@ -2,6 +2,3 @@ use Rattle.field.proofs.Field.product.Needs as need
 
 pub product-by-terms-requires : need.product-by-terms-requires
 product-by-terms-requires g c κs h a m = h a m
-
-pub returns : need.returns
-returns g c = c .product-by-terms .ensures

@@ -2,7 +2,7 @@ use native.Mathlib.Omega.{arith}
 use Rattle.field.specs.Meaning.{coded}
 use Rattle.field.proofs.Tables.{tabulate-is}
 use Rattle.ring.specs.Polynomials.{sum}
-use Rattle.ring.proofs.arithmetic.add_all.Needs as need
+use Rattle.ring.proofs.addition.add_all.Needs as need
 
 pub returns : need.returns
 unfolding sum coded

@@ -4,7 +4,7 @@ use lib.ListN.{getD}
 use Rattle.field.specs.Meaning.{coded}
 use Rattle.field.specs.Convolution.{at}
 use Rattle.ring.specs.Polynomials.{foldAt}
-use Rattle.ring.proofs.arithmetic.fold.Given as given
+use Rattle.ring.proofs.multiplication.fold.Given as given
 
 abbrev pub Inv-loop-k : given.InvT-loop-k
 Inv-loop-k g l =

@@ -9,7 +9,7 @@ use Rattle.field.specs.Convolution.{at}
 use Rattle.field.proofs.Tables.{tabulate-is}
 use Rattle.ring.specs.Polynomials.{fold, foldAt}
 use Rattle.ring.proofs.Polynomials.{foldAt-is}
-use Rattle.ring.proofs.arithmetic.fold.Needs as need
+use Rattle.ring.proofs.multiplication.fold.Needs as need
 
 pub loop-k-holds : need.loop-k-holds
 unfolding coded

@@ -7,7 +7,7 @@ use Rattle.field.specs.Convolution.{convolution}
 use Rattle.field.proofs.Codes.{coded-ring}
 use Rattle.ring.specs.Polynomials.{fold}
 use Rattle.ring.proofs.Polynomials.{fold-convolution}
-use Rattle.ring.proofs.arithmetic.convolve.Needs as need
+use Rattle.ring.proofs.multiplication.convolve.Needs as need
 
 pub returns : need.returns
 returns g c =
