@@ -1,9 +1,12 @@
 -- What each refusal tells: its number, the entry that it speaks of and the steps that were made.
 use Rattle.refusal.specs.declared.Refusal.{Refusal}
-use Rattle.refusal.specs.declared.Refusal.the-variants.{Degree, Length, NotACode}
+use Rattle.refusal.specs.declared.Refusal.the-variants.{Degree, Range, Scratch, Length, NotACode, NoInverse}
 use Rattle.refusal.specs.declared.Report.{Report}
 
 abbrev pub reportOf : Refusal → Report
 reportOf Degree = record { number = 1; entry = 0; steps = 0 }
+reportOf Range = record { number = 3; entry = 0; steps = 0 }
+reportOf Scratch = record { number = 5; entry = 0; steps = 0 }
 reportOf Length = record { number = 6; entry = 0; steps = 0 }
 reportOf (NotACode e) = record { number = 7; entry = e; steps = 0 }
+reportOf (NoInverse e n) = record { number = 13; entry = e; steps = n }

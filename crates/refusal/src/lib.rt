@@ -9,10 +9,16 @@ ghost use Rattle.refusal.specs.Reports.{reportOf};
 pub enum Refusal {
     /// The degree p is not from 2 to 1277.
     Degree,
+    /// The count of steps, the degree difference or the length of f is out of range.
+    Range,
+    /// The scratch is too short.
+    Scratch,
     /// A list has not exactly its length.
     Length,
     /// A number is no code of the field. Only a call on several entries names one; else `entry` is 0.
     NotACode { entry: u32 },
+    /// There is no inverse. Only a call on several entries names one; else `entry` is 0.
+    NoInverse { entry: u32, steps: u32 },
 }
 
 /// What a refusal tells its caller.
@@ -32,20 +38,22 @@ impl Refusal {
         ensures { λ r. ⌜ r ≡ reportOf (now (self .entry)) ⌝ }
     {
         match self {
-            Refusal::Degree => told(1, 0),
-            Refusal::Length => told(6, 0),
-            Refusal::NotACode { entry } => told(7, *entry),
+            Refusal::Degree => told(1, 0, 0),
+            Refusal::Range => told(3, 0, 0),
+            Refusal::Scratch => told(5, 0, 0),
+            Refusal::Length => told(6, 0, 0),
+            Refusal::NotACode { entry } => told(7, *entry, 0),
+            Refusal::NoInverse { entry, steps } => told(13, *entry, *steps),
         }
     }
 }
 
-/// A report of a refusal before any step.
-fn told(number: u32, entry: u32) -> Report
-    ensures { λ r. ⌜ r ≡ record { number = number; entry = entry; steps = 0 } ⌝ }
+fn told(number: u32, entry: u32, steps: u32) -> Report
+    ensures { λ r. ⌜ r ≡ record { number = number; entry = entry; steps = steps } ⌝ }
 {
     Report {
         number,
         entry,
-        steps: 0,
+        steps,
     }
 }

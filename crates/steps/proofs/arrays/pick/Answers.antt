@@ -1,0 +1,6 @@
+use native.Mathlib.Omega.{arith}
+use Rattle.steps.proofs.Masks.{picked}
+use Rattle.steps.proofs.arrays.pick.Needs as need
+
+pub returns : need.returns
+returns c = picked (c .args .c) (c .args .a) (c .args .b) (omega arith) (omega arith)

@@ -1,0 +1,13 @@
+use mathlib.Core.Path.{_≡_}
+use native.Mathlib.Omega.{arith}
+use lib.ListN.{length-replicate}
+use Rattle.field.specs.Meaning.{coded}
+use Rattle.steps.proofs.Filled.{getD-zeros, first-and-rest}
+use Rattle.steps.proofs.arrays.up.Needs as need
+
+pub loop-k-holds : need.loop-k-holds
+loop-k-holds g c = (length-replicate (g .N) 0, getD-zeros (g .N) 0, λ k h. absurd (omega arith))
+
+pub returns : need.returns
+unfolding coded
+returns g c = first-and-rest _ (c .loop-k .out) _ (omega arith) (c .loop-k .inv .1) (λ k h. c .loop-k .inv .2 k (omega arith))
