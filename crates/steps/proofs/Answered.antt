@@ -18,17 +18,17 @@ use Rattle.ring.specs.Laws.{Polynomial}
 use Rattle.steps.specs.ReadOff.{isZero, divided, readOff, inverseOf, IsInverse, NoInverseOf, Answers}
 use Rattle.steps.proofs.ReadOff.{inverse-read-off}
 
-is-other : (d : ℤ) → (d ≡ pos 0 → ⊥) → isZero d ≡ false
-is-other (pos zero) h = absurd (h refl)
-is-other (pos (suc n)) h = refl
-is-other (negsuc n) h = refl
+is-zero : (d : ℤ) → isZero d ≡ true → d ≡ pos 0
+is-zero (pos zero) h = refl
+is-zero (pos (suc n)) h = absurd (let z : _≡_ {A = ℕ} 0 1 = cc in omega arith)
+is-zero (negsuc n) h = absurd (let z : _≡_ {A = ℕ} 0 1 = cc in omega arith)
 
 module _ (A : Arithmetic) (recip : ℕ → Option ℕ) (p : ℕ) (a : List ℕ) where
-  pub answers-none : (d : ℤ) → d ≡ divided A p a .δ → (d ≡ pos 0 → ⊥) → inverseOf A p recip a ≡ None
+  pub answers-none : (d : ℤ) → d ≡ divided A p a .δ → isZero d ≡ false → inverseOf A p recip a ≡ None
   unfolding inverseOf
   answers-none d e h =
       let read : Option (List ℕ) = readOff A p (recip (at (coded A) (divided A p a .f) 0)) (divided A p a .v) in
-      ap (λ z. cond (isZero z) read None) (sym e) ∙ ap (λ b. cond b read None) (is-other d h)
+      ap (λ z. cond (isZero z) read None) (sym e) ∙ ap (λ b. cond b read None) h
 
   -- an inversion that writes what is read off writes the inverse, and finds none only where there is none
   pub answers-right : (laws : ArithmeticLaws A) → ReciprocalLaws A recip → 2 ≤ p → length a ≡ p → allCodes (A .size) a ≡ true →
@@ -43,12 +43,12 @@ module _ (A : Arithmetic) (recip : ℕ → Option ℕ) (p : ℕ) (a : List ℕ) 
 
   -- o is what the field answers at the constant of f
   pub answers-read : (laws : ArithmeticLaws A) → ReciprocalLaws A recip → 2 ≤ p → length a ≡ p → allCodes (A .size) a ≡ true →
-      (d : ℤ) (f : List ℕ) (o : Option ℕ) → d ≡ divided A p a .δ → d ≡ pos 0 → f ≡ divided A p a .f → o ≡ recip (code (A .size) (getD f 0 0)) →
+      (d : ℤ) (f : List ℕ) (o : Option ℕ) → d ≡ divided A p a .δ → isZero d ≡ true → f ≡ divided A p a .f → o ≡ recip (code (A .size) (getD f 0 0)) →
       inverseOf A p recip a ≡ readOff A p o (divided A p a .v)
   unfolding inverseOf coded
   answers-read laws reciprocals big long codes d f o δ-is zero-is f-is o-is =
       let given : Polynomial A p a = record { long = long; codes = λ k h. all-codes-at (A .size) a codes k (omega arith) } in
-      let ends : divided A p a .δ ≡ pos 0 = sym δ-is ∙ zero-is in
+      let ends : divided A p a .δ ≡ pos 0 = sym δ-is ∙ is-zero d zero-is in
       let is-code = inverse-read-off A laws recip reciprocals p big a given .constant-code ends in
       ap (λ z. cond (isZero z) (readOff A p (recip (getD (divided A p a .f) 0 0)) (divided A p a .v)) None) ends
       ∙ ap (λ r. readOff A p r (divided A p a .v)) (sym (o-is ∙ ap (λ l. recip (code (A .size) (getD l 0 0))) f-is ∙ ap recip (code-of (A .size) _ is-code)))

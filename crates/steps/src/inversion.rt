@@ -15,7 +15,7 @@ ghost use Rattle.std.specs.Orderings.{When};
 ghost use Rattle.std.specs.Options.{isSome, valueOr};
 ghost use Rattle.field.specs.Convolution.{tabulate};
 ghost use Rattle.field.specs.Meaning.{coded, allCodes};
-ghost use Rattle.steps.specs.ReadOff.{divided, inverseOf, IsInverse, NoInverseOf};
+ghost use Rattle.steps.specs.ReadOff.{isZero, divided, inverseOf, IsInverse, NoInverseOf};
 use crate::run::run;
 use crate::starts::set_one;
 use crate::starts::set_reversed;
@@ -40,7 +40,7 @@ pub(crate) fn invert<F: Field>(p: usize, a: &[u16], out: &mut [u16], scratch: &m
     let (v, rest) = rest.split_at_mut(p + p);
     let (r, work) = rest.split_at_mut(p + p);
     let delta = divide::<F>(p, a, f, g, v, r, work);
-    if delta != 0 {
+    if !ended(delta) {
         return false;
     }
     match F::reciprocal(f[0]) {
@@ -91,6 +91,21 @@ pub(crate) fn read_off<F: Field>(v: &[u16], c: u16, out: &mut [u16])
 {
     let p = out.len();
     for k in 0..p {
-        out[k] = F::mul(v[p - k], c);
+        out[k] = read_coefficient::<F>(v, p - k, c);
     }
+}
+
+/// Coefficient k of v times c.
+fn read_coefficient<F: Field>(v: &[u16], k: usize, c: u16) -> u16
+    requires { ⌜ k < length (now v) ⌝ }
+    ensures { λ r. ⌜ r ≡ coded (F·Field .arithmetic) .times (getD (now (v .entry)) k 0) c ⌝ }
+{
+    F::mul(v[k], c)
+}
+
+/// Whether the steps end with an inverse to read off.
+fn ended(delta: i32) -> bool
+    ensures { λ r. ⌜ r ≡ isZero delta ⌝ }
+{
+    delta == 0
 }

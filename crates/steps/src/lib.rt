@@ -3,13 +3,14 @@
 mod apply;
 mod arrays;
 mod batch;
-mod calls;
+mod inverse_call;
 mod inversion;
 mod questions;
 mod run;
 mod starts;
+mod steps_call;
 pub mod theorems;
 mod window;
 
-pub use calls::inverse;
-pub use calls::steps;
+pub use inverse_call::inverse;
+pub use steps_call::steps;

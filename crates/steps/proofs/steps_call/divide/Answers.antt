@@ -9,7 +9,7 @@ use Rattle.ring.specs.Polynomials.{unitAt}
 use Rattle.steps.specs.Steps.{stateOf, notZero}
 use Rattle.steps.proofs.Deltas.{back}
 use Rattle.steps.proofs.Divided.{tested-pair, resized, run-is}
-use Rattle.steps.proofs.calls.divide.Needs as need
+use Rattle.steps.proofs.steps_call.divide.Needs as need
 
 pub returns : need.returns
 returns g c =
