@@ -1,9 +1,9 @@
 -- Lists made from a function of the index.
 use mathlib.Core.Path.{_≡_, refl, sym, ap, _∙_}
-use mathlib.Core.List.{List, [], _∷_}
+use mathlib.Core.List.{List, [], _∷_, _++_}
 use Prim.Native.Nat.{ℕ, zero, suc, _<_}
 use native.Mathlib.Omega.{arith}
-use lib.ListN.{length, getD}
+use lib.ListN.{length, getD, replicate}
 use Rattle.std.proofs.shelf.Counted.{length-map-counting, getD-map-counting, fill-by-all}
 use Rattle.field.specs.Convolution.{tabulate}
 
@@ -36,3 +36,20 @@ module _ {C : Type 0} where
   pub tabulate-none : (f : ℕ → C) → tabulate 0 f ≡ []
   unfolding tabulate
   tabulate-none f = refl
+
+  -- lists that agree at each place
+  pub same-places : (n : ℕ) (a b : List C) (d : C) → length a ≡ n → length b ≡ n → ((k : ℕ) → k < n → getD a k d ≡ getD b k d) → a ≡ b
+  same-places n a b d ha hb e = tabulate-is n (λ k. getD b k d) a d ha e ∙ sym (tabulate-is n (λ k. getD b k d) b d hb (λ k h. refl))
+
+  -- one value at every place
+  pub replicate-at : (n : ℕ) (d : C) (k : ℕ) → getD (replicate n d) k d ≡ d
+  replicate-at zero d k = refl
+  replicate-at (suc n) d zero = refl
+  replicate-at (suc n) d (suc k) = replicate-at n d k
+
+  -- one default more at the end
+  pub padded : (a : List C) (d : C) (k : ℕ) → getD (a ++ d ∷ []) k d ≡ getD a k d
+  padded [] d zero = refl
+  padded [] d (suc k) = refl
+  padded (x ∷ a) d zero = refl
+  padded (x ∷ a) d (suc k) = padded a d k

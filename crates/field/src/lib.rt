@@ -90,7 +90,7 @@ fn terms(len: usize, k: usize) -> usize
 }
 
 /// Coefficient k of a list, which past the end is 0.
-fn at(a: &[u16], k: usize) -> u16
+pub fn at(a: &[u16], k: usize) -> u16
     ensures { λ r. ⌜ r ≡ getD (now (a .entry)) k 0 ⌝ }
 {
     if k < a.len() { a[k] } else { 0 }

@@ -19,11 +19,6 @@ use Rattle.residues.proofs.Coefficients.{code-past, coef-low, coef-high, coef-
 use Rattle.residues.proofs.Picks.{by-part}
 use Rattle.residues.proofs.Pairs.{pair-coef}
 
-pub zeros-at : (n k : ℕ) → getD {A = ℕ} (replicate {A = ℕ} n 0) k 0 ≡ 0
-zeros-at zero k = refl
-zeros-at (suc n) zero = refl
-zeros-at (suc n) (suc k) = zeros-at n k
-
 -- one more window: f j is what place j of a group gets
 pub window-more : (q base i : ℕ) (f : ℕ → ℕ) (first old new lanes : List ℕ) →
     ((j : ℕ) → j < 32 * i → getD old (base + j) 0 ≡ (getD first (base + j) 0 + f j) % q) →

@@ -8,25 +8,17 @@ use native.Mathlib.Decide.{decLt}
 use lib.ListN.{length, getD, set, replicate, length-set, length-append, length-replicate}
 use Rattle.std.proofs.shelf.Lists.{getD-set-same, getD-set-other, getD-reverse, getD-past, length-reverse}
 use Rattle.field.specs.Convolution.{tabulate}
-use Rattle.field.proofs.Tables.{tabulate-is}
-
-pub same : (n : ℕ) (a b : List ℕ) → length a ≡ n → length b ≡ n → ((k : ℕ) → k < n → getD a k 0 ≡ getD b k 0) → a ≡ b
-same n a b ha hb e = tabulate-is n (λ k. getD b k 0) a 0 ha e ∙ sym (tabulate-is n (λ k. getD b k 0) b 0 hb (λ k h. refl))
-
-pub zeros-at : (n k : ℕ) → getD {A = ℕ} (replicate n 0) k 0 ≡ 0
-zeros-at zero k = refl
-zeros-at (suc n) zero = refl
-zeros-at (suc n) (suc k) = zeros-at n k
+use Rattle.field.proofs.Tables.{tabulate-is, same-places, replicate-at, padded}
 
 pub zero-is : (n : ℕ) (f : ℕ → ℕ) → ((k : ℕ) → f k ≡ 0) → replicate n 0 ≡ tabulate n f
-zero-is n f e = tabulate-is n f (replicate n 0) 0 (length-replicate n 0) (λ k h. zeros-at n k ∙ sym (e k))
+zero-is n f e = tabulate-is n f (replicate n 0) 0 (length-replicate n 0) (λ k h. replicate-at n 0 k ∙ sym (e k))
 
 pub one-is : (n : ℕ) (f : ℕ → ℕ) → 0 < n → f 0 ≡ 1 → ((k : ℕ) → f (suc k) ≡ 0) → set (replicate n 0) 0 1 ≡ tabulate n f
 one-is n f h e z = tabulate-is n f (set (replicate n 0) 0 1) 0 (length-set (replicate n 0) 0 1 ∙ length-replicate n 0) go
   where
     go : (k : ℕ) → k < n → getD (set (replicate n 0) 0 1) k 0 ≡ f k
     go zero l = getD-set-same (replicate n 0) 0 1 0 (omega (arith, length-replicate {A = ℕ} n 0)) ∙ sym e
-    go (suc k) l = getD-set-other (replicate n 0) 0 (suc k) 1 0 (omega arith) ∙ zeros-at n (suc k) ∙ sym (z k)
+    go (suc k) l = getD-set-other (replicate n 0) 0 (suc k) 1 0 (omega arith) ∙ replicate-at n 0 (suc k) ∙ sym (z k)
 
 low : (m n k : ℕ) → k < n → getD (replicate n 0 ++ (m ∷ m ∷ [])) k 0 ≡ 0
 low m zero k h = absurd (omega arith)
@@ -42,7 +34,7 @@ high m (suc n) (suc k) h l = high m n k (omega arith) (omega arith)
 
 pub modulus-is : (p m : ℕ) (f : List ℕ) → 2 ≤ p → length f ≡ p + 1 → ((k : ℕ) → k < p + 1 → getD f k 0 ≡ 0) → set (set (set f 0 1) (p - 1) m) p m ≡ 1 ∷ (replicate (p - 2) 0 ++ (m ∷ m ∷ []))
 modulus-is p m f big long none =
-    same (p + 1) _ _ (length-set (set (set f 0 1) (p - 1) m) p m ∙ length-set (set f 0 1) (p - 1) m ∙ length-set f 0 1 ∙ long) (simp (length-append, length-replicate) (omega arith)) go
+    same-places (p + 1) _ _ 0 (length-set (set (set f 0 1) (p - 1) m) p m ∙ length-set (set f 0 1) (p - 1) m ∙ length-set f 0 1 ∙ long) (simp (length-append, length-replicate) (omega arith)) go
   where
     l1 : length (set f 0 1) ≡ p + 1
     l1 = length-set f 0 1 ∙ long
@@ -61,19 +53,13 @@ modulus-is p m f big long none =
           ]
         ]
 
-padded : (a : List ℕ) (k : ℕ) → getD (a ++ (0 ∷ [])) k 0 ≡ getD a k 0
-padded [] zero = refl
-padded [] (suc k) = refl
-padded (x ∷ a) zero = refl
-padded (x ∷ a) (suc k) = padded a k
-
 pub reversed-is : (a g : List ℕ) → length g ≡ length a + 1 → ((k : ℕ) → k < length a → getD g k 0 ≡ getD a (length a - 1 - k) 0) → set g (length a) 0 ≡ reverse a ++ (0 ∷ [])
 reversed-is a g long e =
-    same (length a + 1) _ _ (length-set g (length a) 0 ∙ long) (length-append (reverse a) (0 ∷ []) ∙ ap (λ n. n + 1) (length-reverse a)) (λ k h. go k h (decLt k (length a)))
+    same-places (length a + 1) _ _ 0 (length-set g (length a) 0 ∙ long) (length-append (reverse a) (0 ∷ []) ∙ ap (λ n. n + 1) (length-reverse a)) (λ k h. go k h (decLt k (length a)))
   where
     go : (k : ℕ) → k < length a + 1 → Dec (k < length a) → getD (set g (length a) 0) k 0 ≡ getD (reverse a ++ (0 ∷ [])) k 0
-    go k h (yes l) = getD-set-other g (length a) k 0 0 (omega arith) ∙ e k l ∙ sym (padded (reverse a) k ∙ getD-reverse a k 0 l)
-    go k h (no l) = ap (λ i. getD (set g i 0) k 0) (omega arith) ∙ getD-set-same g k 0 0 (omega arith) ∙ sym (padded (reverse a) k ∙ getD-past (reverse a) k 0 (omega (arith, length-reverse a)))
+    go k h (yes l) = getD-set-other g (length a) k 0 0 (omega arith) ∙ e k l ∙ sym (padded (reverse a) 0 k ∙ getD-reverse a k 0 l)
+    go k h (no l) = ap (λ i. getD (set g i 0) k 0) (omega arith) ∙ getD-set-same g k 0 0 (omega arith) ∙ sym (padded (reverse a) 0 k ∙ getD-past (reverse a) k 0 (omega (arith, length-reverse a)))
 
 tail-code : (s m : ℕ) → 0 < s → m < s → (n k : ℕ) → getD (replicate n 0 ++ (m ∷ m ∷ [])) k 0 < s
 tail-code s m h l zero zero = l
@@ -90,7 +76,7 @@ modulus-codes s m n f h l e k i = subst (λ x. getD x k 0 < s) (sym e) (go k)
     go (suc k) = tail-code s m (omega arith) l n k
 
 pub reversed-codes : (s : ℕ) (a g : List ℕ) → 0 < s → ((k : ℕ) → k < length a → getD a k 0 < s) → g ≡ reverse a ++ (0 ∷ []) → (k : ℕ) → k < length g → getD g k 0 < s
-reversed-codes s a g h c e k i = subst (λ x. getD x k 0 < s) (sym e) (subst (λ x. x < s) (sym (padded (reverse a) k)) (go (decLt k (length a))))
+reversed-codes s a g h c e k i = subst (λ x. getD x k 0 < s) (sym e) (subst (λ x. x < s) (sym (padded (reverse a) 0 k)) (go (decLt k (length a))))
   where
     go : Dec (k < length a) → getD (reverse a) k 0 < s
     go (yes l) = subst (λ x. x < s) (sym (getD-reverse a k 0 l)) (c (length a - 1 - k) (omega arith))

@@ -1,5 +1,5 @@
 -- Arrays that are filled place by place.
--- Main results: `getD-zeros`, `chosen`, `first-and-rest`, `rest-and-last`.
+-- Main results: `chosen`, `first-and-rest`, `rest-and-last`.
 use mathlib.Core.Path.{_≡_, refl, sym, ap, _∙_}
 use mathlib.Core.Bool.{Bool, true, false, cond}
 use mathlib.Core.List.{List}
@@ -7,25 +7,16 @@ use mathlib.Core.Logic.{inl, inr}
 use Prim.Native.Nat.{ℕ, zero, suc, _+_, _-_, _<_, _≤_}
 use native.Mathlib.Omega.{arith}
 use native.Mathlib.Numerals.{add-one}
-use lib.ListN.{length, getD, replicate}
+use lib.ListN.{length, getD}
 use Rattle.std.proofs.shelf.Lists.{getD-past}
 use Rattle.std.proofs.shelf.Tests.{cases-lt}
 use Rattle.field.specs.Convolution.{tabulate}
-use Rattle.field.proofs.Tables.{tabulate-is}
-
-pub getD-zeros : (n k : ℕ) → getD {A = ℕ} (replicate n 0) k 0 ≡ 0
-getD-zeros zero k = refl
-getD-zeros (suc n) zero = refl
-getD-zeros (suc n) (suc k) = getD-zeros n k
-
--- lists that agree at each place
-same-places : (n : ℕ) (a b : List ℕ) → length a ≡ n → length b ≡ n → ((k : ℕ) → k < n → getD a k 0 ≡ getD b k 0) → a ≡ b
-same-places n a b ha hb e = tabulate-is n (λ k. getD b k 0) a 0 ha e ∙ sym (tabulate-is n (λ k. getD b k 0) b 0 hb (λ k h. refl))
+use Rattle.field.proofs.Tables.{tabulate-is, same-places}
 
 -- one choice at each place is one choice of the list
 pub chosen : (n : ℕ) (o : Bool) (out a b : List ℕ) → length out ≡ n → length a ≡ n → length b ≡ n → ((k : ℕ) → k < n → getD out k 0 ≡ cond o (getD a k 0) (getD b k 0)) → out ≡ cond o a b
-chosen n true out a b ho ha hb e = same-places n out a ho ha e
-chosen n false out a b ho ha hb e = same-places n out b ho hb e
+chosen n true out a b ho ha hb e = same-places n out a 0 ho ha e
+chosen n false out a b ho ha hb e = same-places n out b 0 ho hb e
 
 -- a list by its first value and the others
 pub first-and-rest : (n : ℕ) (out : List ℕ) (f : ℕ → ℕ) → length out ≡ n → getD out 0 0 ≡ f 0 → ((k : ℕ) → k + 1 < n → getD out (k + 1) 0 ≡ f (suc k)) → out ≡ tabulate n f

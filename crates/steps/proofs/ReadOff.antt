@@ -15,6 +15,7 @@ use Rattle.std.proofs.shelf.Lists.{length-reverse}
 use Rattle.field.specs.Rings.{Operations, CommutativeRing, Normal}
 use Rattle.field.specs.Meaning.{Arithmetic, Code, ArithmeticLaws, IsReciprocal, ReciprocalLaws, coded}
 use Rattle.field.specs.Convolution.{tabulate, at}
+use Rattle.field.proofs.Tables.{padded}
 use Rattle.field.proofs.Codes.{coded-ring, coded-times, code-normal, normal-code}
 use Rattle.ring.specs.Polynomials.{unit, scaled, product}
 use Rattle.ring.specs.Laws.{Polynomial, Inverse, Invertible}
@@ -36,13 +37,6 @@ not-zero-false (suc a) h = absurd (let z : _≡_ {A = ℕ} 0 1 = cc in omega ari
 not-zero-true : (a : ℕ) → notZero a ≡ true → a ≢ 0
 not-zero-true zero h e = let z : _≡_ {A = ℕ} 0 1 = cc in omega arith
 not-zero-true (suc a) h e = omega arith
-
--- a zero at the end
-padded : {C : Type 0} (O : Operations C) (a : List C) (k : ℕ) → at O (a ++ O .zero ∷ []) k ≡ at O a k
-padded O [] zero = refl
-padded O [] (suc k) = refl
-padded O (x ∷ a) zero = refl
-padded O (x ∷ a) (suc k) = padded O a k
 
 module _ (A : Arithmetic) (laws : ArithmeticLaws A) (recip : ℕ → Option ℕ) (reciprocals : ReciprocalLaws A recip) where
   R : CommutativeRing (coded A)
@@ -77,7 +71,7 @@ module _ (A : Arithmetic) (laws : ArithmeticLaws A) (recip : ℕ → Option ℕ)
         let m = length-modulus (coded A) p big in
         looks R notZero (p + p - 1) (p + p - 1) (pos 1) (reversedModulus A p) (reverse a ++ 0 ∷ [])
         (ap length modulus-is ∙ m ∙ sym (length-append (reverse a) (0 ∷ []) ∙ ap (λ n. n + 1) (length-reverse a ∙ given .long))) (omega arith)
-        ∙ ap₂ (λ f g. run (coded A) notZero (p + p - 1) (pos 1) f g) (ap (at (coded A)) modulus-is) (fun-ext (padded (coded A) (reverse a)))
+        ∙ ap₂ (λ f g. run (coded A) notZero (p + p - 1) (pos 1) f g) (ap (at (coded A)) modulus-is) (fun-ext (padded (reverse a) 0))
 
     normals : Normals (coded A) (at (coded A) a)
     unfolding coded

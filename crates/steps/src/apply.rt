@@ -6,9 +6,9 @@ ghost use lib.ListN.{length};
 ghost use Rattle.field.specs.Meaning.{coded};
 ghost use Rattle.ring.specs.Polynomials.{sum};
 ghost use Rattle.steps.specs.Batches.{rowTimes, window as windowOf};
-use crate::arrays::at;
 use crate::window::Window;
 use field::Field;
+use field::at;
 
 /// The first sixteen coefficients, where a missing one is 0.
 pub(crate) fn first_codes<F: Field>(a: &[u16]) -> [u16; 16]
@@ -32,7 +32,7 @@ fn add_lists<F: Field>(a: &[u16], b: &[u16], out: &mut [u16])
     }
 }
 
-/// a·x + b·y without its first `skip` coefficients, in the place of y.
+/// a·x + b·y without its first `skip` coefficients, in the place of y. Both products are made first.
 fn row_times<F: Field>(
     skip: usize,
     a: &[u16],
@@ -42,8 +42,6 @@ fn row_times<F: Field>(
     left: &mut [u16],
     right: &mut [u16],
 )
-    requires skip { ⌜ skip ≤ 16 ⌝ }
-    requires small { ⌜ length (now y) ≤ 100000 ⌝ }
     requires long { ⌜ length (now x) ≡ length (now y) ⌝ }
     requires left { ⌜ length (now left) ≡ length (now y) + skip ⌝ }
     requires right { ⌜ length (now right) ≡ length (now y) + skip ⌝ }
@@ -54,7 +52,8 @@ fn row_times<F: Field>(
     add_lists::<F>(&left[skip..], &right[skip..], y);
 }
 
-/// The matrix of w times the column (x, y), in the place of the column. Both rows read the old x and y.
+/// The matrix of w times the column (x, y), without its first `skip` coefficients, in the place of the
+/// column. Both rows read the old x, so the first waits in `row` for the second.
 fn apply_between<F: Field>(
     w: Window,
     skip: usize,
@@ -64,8 +63,6 @@ fn apply_between<F: Field>(
     right: &mut [u16],
     row: &mut [u16],
 )
-    requires skip { ⌜ skip ≤ 16 ⌝ }
-    requires small { ⌜ length (now x) ≤ 100000 ⌝ }
     requires long { ⌜ length (now x) ≡ length (now y) ⌝ }
     requires left { ⌜ length (now left) ≡ length (now x) + skip ⌝ }
     requires right { ⌜ length (now right) ≡ length (now x) + skip ⌝ }
@@ -79,7 +76,7 @@ fn apply_between<F: Field>(
     x.copy_from_slice(row);
 }
 
-/// The matrix of w times the column (x, y), without its first `skip` coefficients, in the place of the column.
+/// The same, worked out in the scratch.
 pub(crate) fn apply<F: Field>(
     w: Window,
     skip: usize,

@@ -2,7 +2,6 @@
 
 ghost use mathlib.Core.Path.{_≡_};
 ghost use mathlib.Core.Bool.{cond};
-ghost use lib.ListN.{getD};
 ghost use Rattle.field.specs.Meaning.{coded};
 ghost use Rattle.steps.specs.Steps.{lists};
 use field::Field;
@@ -24,13 +23,6 @@ pub(crate) fn select<const N: usize>(c: bool, a: [u16; N], b: [u16; N]) -> [u16;
         out[k] = pick(c, a[k], b[k]);
     }
     out
-}
-
-/// Coefficient k of a list, which past the end is 0.
-pub(crate) fn at(a: &[u16], k: usize) -> u16
-    ensures { λ r. ⌜ r ≡ getD (now (a .entry)) k 0 ⌝ }
-{
-    if k < a.len() { a[k] } else { 0 }
 }
 
 /// a / x, with 0 at the last place.

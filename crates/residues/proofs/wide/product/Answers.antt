@@ -3,10 +3,10 @@ use Prim.Native.Nat.{_%_, _≤_}
 use native.Mathlib.Omega.{arith}
 use lib.ListN.{length, getD, take}
 use Rattle.std.proofs.shelf.Lists.{getD-take, length-take-le}
-use Rattle.field.proofs.Tables.{tabulate-is}
+use Rattle.field.proofs.Tables.{tabulate-is, replicate-at}
 use Rattle.residues.proofs.Residues.{residues-lawful}
 use Rattle.residues.proofs.Coefficients.{coef-natural}
-use Rattle.residues.proofs.Groups.{zeros-at, front-codes, front-coef}
+use Rattle.residues.proofs.Groups.{front-codes, front-coef}
 use Rattle.residues.proofs.wide.product.Needs as need
 
 pub spread-requires : need.spread-requires
@@ -15,11 +15,11 @@ spread-requires g c κs = record {
   few = c .pre .few;
   short = c .pre .right;
   room = refl;
-  zeros = zeros-at 5888;
+  zeros = replicate-at 5888 0;
 }
 
 pub codes-requires : need.codes-requires
-codes-requires g c κs = record { many = c .pre .many; room = c .pre .left; zeros = zeros-at 1280 }
+codes-requires g c κs = record { many = c .pre .many; room = c .pre .left; zeros = replicate-at 1280 0 }
 
 pub add-groups-requires : need.add-groups-requires
 add-groups-requires g c κs =
@@ -37,7 +37,7 @@ add-groups-requires g c κs =
       spread = c .spread .ensures .spread;
       small = c .spread .ensures .small;
       room = refl;
-      zeros = zeros-at 3904;
+      zeros = replicate-at 3904 0;
     }
 
 pub returns : need.returns

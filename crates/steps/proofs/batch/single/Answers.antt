@@ -1,4 +1,4 @@
-use mathlib.Core.Path.{_≡_, ap, _∙_}
+use mathlib.Core.Path.{ap, _∙_}
 use Rattle.field.specs.Meaning.{coded}
 use Rattle.steps.specs.Steps.{lists, swapped, reduced, step, notZero}
 use Rattle.steps.specs.Windows.{heldIn}
