@@ -2,14 +2,23 @@
 -- Main results: `code-of`, `code-below`, `all-codes-at`, `coded-ring`.
 use mathlib.Core.Path.{_≡_, refl, sym, ap, ap₂, _∙_, subst}
 use mathlib.Core.Bool.{Bool, true, false, _&&_}
-use mathlib.Core.List.{List, [], _∷_}
-use Prim.Native.Nat.{ℕ, zero, suc, _<_, _≤_}
+use mathlib.Core.List.{List, [], _∷_, _++_}
+use Prim.Native.Nat.{ℕ, zero, suc, _+_, _<_, _≤_}
 use native.Mathlib.Omega.{arith}
 use lib.Dec.{ltb}
-use lib.ListN.{length, getD}
+use lib.ListN.{length, getD, take}
+use Rattle.std.proofs.shelf.Lists.{take-more}
 use Rattle.std.proofs.shelf.Tests.{lt-ltb, cond-true, cond-both, ltb-true}
 use Rattle.field.specs.Rings.{Operations, CommutativeRing, Normal}
 use Rattle.field.specs.Meaning.{Arithmetic, Code, ArithmeticLaws, code, coded, allCodes}
+
+and-true : (b : Bool) → (b && true) ≡ b
+and-true true = refl
+and-true false = refl
+
+and-assoc : (a b c : Bool) → ((a && b) && c) ≡ (a && (b && c))
+and-assoc true b c = refl
+and-assoc false b c = refl
 
 and-left : (a b : Bool) → (a && b) ≡ true → a ≡ true
 and-left true b e = refl
@@ -30,6 +39,15 @@ code-zero s = cond-both (ltb 0 s) 0 0 (λ x. x ≡ 0) (λ e. refl) (λ e. refl)
 
 pub code-code : (s n : ℕ) → code s (code s n) ≡ code s n
 code-code s n = cond-both (ltb n s) n 0 (λ x. code s x ≡ x) (λ e. cond-true (ltb n s) n 0 e) (λ e. code-zero s)
+
+-- one number more
+pub all-codes-more : (s : ℕ) (xs : List ℕ) (i : ℕ) → i < length xs → allCodes s (take (i + 1) xs) ≡ (allCodes s (take i xs) && ltb (getD xs i 0) s)
+unfolding allCodes
+all-codes-more s xs i h = ap (allCodes s) (take-more xs i 0 h) ∙ push (take i xs) (getD xs i 0)
+  where
+    push : (ys : List ℕ) (y : ℕ) → allCodes s (ys ++ y ∷ []) ≡ (allCodes s ys && ltb y s)
+    push [] y = and-true (ltb y s)
+    push (x ∷ ys) y = ap (λ b. ltb x s && b) (push ys y) ∙ sym (and-assoc (ltb x s) (allCodes s ys) (ltb y s))
 
 -- the test says that each number is a code
 pub all-codes-at : (s : ℕ) (xs : List ℕ) → allCodes s xs ≡ true → (k : ℕ) → k < length xs → getD xs k 0 < s
