@@ -18,10 +18,13 @@ pub data Row : Type 0 where
   inversion : (q p : ℕ) (a : List ℕ) (answer : Option (List ℕ)) (steps : ℕ) → Row
   -- n steps from δ, f and g end so
   division : (q n : ℕ) (δ : ℤ) (f g : List ℕ) (end : State (List ℕ)) → Row
+  -- no steps leave every δ, f and g, with the matrix 1 in lists of one coefficient
+  no-steps : (q : ℕ) → Row
 
 abbrev pub Holds : Row → Type 0
 Holds (inversion q p a answer steps) = (inverseOf (residues q) p (reciprocalMod q) a ≡ answer) × (inversionSteps p ≡ steps)
 Holds (division q n δ f g end) = after (coded (residues q)) notZero n δ f g ≡ end
+Holds (no-steps q) = (δ : ℤ) (f g : List ℕ) → after (coded (residues q)) notZero 0 δ f g ≡ stateOf δ f g (1 ∷ []) (0 ∷ []) (0 ∷ []) (1 ∷ [])
 
 abbrev pub All : List Row → Type 0
 All [] = Unit {0}
@@ -35,5 +38,5 @@ table =
     ∷ inversion 5 2 (0 ∷ 0 ∷ []) None 3
     ∷ division 3 3 (pos 1) (1 ∷ 2 ∷ 2 ∷ []) (1 ∷ 0 ∷ 0 ∷ [])
     (stateOf (pos 0) (2 ∷ 0 ∷ 0 ∷ []) (0 ∷ 0 ∷ 0 ∷ []) (0 ∷ 1 ∷ 0 ∷ 0 ∷ []) (0 ∷ 2 ∷ 1 ∷ 0 ∷ []) (2 ∷ 0 ∷ 0 ∷ 0 ∷ []) (1 ∷ 2 ∷ 2 ∷ 0 ∷ []))
-    ∷ division 5 0 (pos 4) (3 ∷ 1 ∷ []) (2 ∷ 4 ∷ []) (stateOf (pos 4) (3 ∷ 1 ∷ []) (2 ∷ 4 ∷ []) (1 ∷ []) (0 ∷ []) (0 ∷ []) (1 ∷ []))
+    ∷ no-steps 5
     ∷ []

@@ -2,25 +2,30 @@
 
 ghost use mathlib.Core.Path.{_≡_};
 ghost use mathlib.Core.Bool.{cond};
+ghost use Prim.Native.Nat.{_≤_};
+ghost use lib.Dec.{eqb};
 ghost use Rattle.field.specs.Meaning.{coded};
 ghost use Rattle.steps.specs.Steps.{lists};
 use field::Field;
 
-/// a if c holds, else b; the same operations either way.
-fn pick(c: bool, a: u16, b: u16) -> u16
-    ensures { λ r. ⌜ r ≡ cond c a b ⌝ }
+/// a if the bit is 1, b if it is 0; the same operations either way. The choice is a number and no `bool`, since
+/// a compiler makes branches of masks that it can see a `bool` in.
+fn pick(bit: u16, a: u16, b: u16) -> u16
+    requires { ⌜ bit ≤ 1 ⌝ }
+    ensures { λ r. ⌜ r ≡ cond (eqb bit 1) a b ⌝ }
 {
-    let mask = 0u16.wrapping_sub(c as u16);
+    let mask = 0u16.wrapping_sub(bit);
     b ^ (mask & (a ^ b))
 }
 
-/// The array a if c holds, else b; the same operations either way.
-pub(crate) fn select<const N: usize>(c: bool, a: [u16; N], b: [u16; N]) -> [u16; N]
-    ensures { λ out. ⌜ out ≡ cond c (a .entry) (b .entry) ⌝ }
+/// The array a if the bit is 1, b if it is 0; the same operations either way.
+pub(crate) fn select<const N: usize>(bit: u16, a: [u16; N], b: [u16; N]) -> [u16; N]
+    requires { ⌜ bit ≤ 1 ⌝ }
+    ensures { λ out. ⌜ out ≡ cond (eqb bit 1) (a .entry) (b .entry) ⌝ }
 {
     let mut out = [0; N];
     for k in 0..N {
-        out[k] = pick(c, a[k], b[k]);
+        out[k] = pick(bit, a[k], b[k]);
     }
     out
 }

@@ -3,7 +3,9 @@
 ghost use mathlib.Core.Bool.{cond};
 ghost use mathlib.Core.Path.{_≡_};
 ghost use Prim.Native.Nat.{_+_, _≤_};
-ghost use lib.IntN.{natAbs, negℤ};
+ghost use lib.Dec.{eqb};
+ghost use lib.IntN.{pos, natAbs, negℤ};
+ghost use lib.Signed.{ltZ};
 ghost use Rattle.field.specs.Meaning.{coded};
 ghost use Rattle.steps.specs.Steps.{lists, begins, swapped, swaps as swapsOf, reduced, step, steps, notZero};
 ghost use Rattle.steps.specs.Windows.{heldIn, codeLists};
@@ -13,37 +15,55 @@ use crate::arrays::up;
 use crate::window::Window;
 use field::Field;
 
-/// −d if c holds, else d; the same operations either way.
-fn negate_if(c: bool, d: i32) -> i32
-    requires { ⌜ natAbs d ≤ 100000 ⌝ }
-    ensures { λ r. ⌜ r ≡ cond c (negℤ d) d ⌝ }
+/// −d if the bit is 1, d if it is 0; the same operations either way.
+fn negate_if(bit: u16, d: i32) -> i32
+    requires bit { ⌜ bit ≤ 1 ⌝ }
+    requires small { ⌜ natAbs d ≤ 100000 ⌝ }
+    ensures { λ r. ⌜ r ≡ cond (eqb bit 1) (negℤ d) d ⌝ }
 {
-    let sign = 1 - 2 * c as i32;
+    let sign = 1 - 2 * bit as i32;
     sign * d
 }
 
-/// Whether a step swaps: δ > 0 and g(0) ≠ 0.
-fn swaps<F: Field>(w: Window) -> bool
-    requires { ⌜ natAbs (w .delta) ≤ 100000 ⌝ }
-    ensures { λ r. ⌜ r ≡ swapsOf (codeLists (coded (F·Field .arithmetic))) notZero (heldIn w) ⌝ }
+/// 1 for d > 0, else 0: the top bit of d + 2^31 − 1.
+fn positive(d: i32) -> u16
+    requires { ⌜ natAbs d ≤ 100000 ⌝ }
+    ensures { λ r. ⌜ r ≡ cond (ltZ (pos 0) d) 1 0 ⌝ }
 {
-    (w.delta > 0) & (w.g[0] != 0)
+    (((d + 100_000) as u32 + 2_147_383_647) >> 31) as u16
 }
 
-/// The window with f and g and the rows in each other's place, and −δ, if c holds.
-fn swap_if(c: bool, w: Window) -> Window
+/// 1 for a code that is not 0, else 0: the top bit of a + 2^31 − 1.
+fn nonzero(a: u16) -> u16
+    ensures { λ r. ⌜ r ≡ cond (notZero a) 1 0 ⌝ }
+{
+    ((a as u32 + 2_147_483_647) >> 31) as u16
+}
+
+/// 1 where a step swaps, δ > 0 and g(0) ≠ 0, else 0.
+fn swaps<F: Field>(w: Window) -> u16
     requires { ⌜ natAbs (w .delta) ≤ 100000 ⌝ }
-    ensures state { λ r. ⌜ heldIn r ≡ swapped c (heldIn w) ⌝ }
+    ensures bit { λ r. ⌜ r ≤ 1 ⌝ }
+    ensures test { λ r. ⌜ eqb r 1 ≡ swapsOf (codeLists (coded (F·Field .arithmetic))) notZero (heldIn w) ⌝ }
+{
+    positive(w.delta) * nonzero(w.g[0])
+}
+
+/// The window with f and g and the rows in each other's place, and −δ, if the bit is 1.
+fn swap_if(bit: u16, w: Window) -> Window
+    requires bit { ⌜ bit ≤ 1 ⌝ }
+    requires small { ⌜ natAbs (w .delta) ≤ 100000 ⌝ }
+    ensures state { λ r. ⌜ heldIn r ≡ swapped (eqb bit 1) (heldIn w) ⌝ }
     ensures small { λ r. ⌜ natAbs (r .delta) ≡ natAbs (w .delta) ⌝ }
 {
     Window {
-        delta: negate_if(c, w.delta),
-        f: select(c, w.g, w.f),
-        g: select(c, w.f, w.g),
-        u: select(c, w.q, w.u),
-        v: select(c, w.r, w.v),
-        q: select(c, w.u, w.q),
-        r: select(c, w.v, w.r),
+        delta: negate_if(bit, w.delta),
+        f: select(bit, w.g, w.f),
+        g: select(bit, w.f, w.g),
+        u: select(bit, w.q, w.u),
+        v: select(bit, w.r, w.v),
+        q: select(bit, w.u, w.q),
+        r: select(bit, w.v, w.r),
     }
 }
 

@@ -9,4 +9,4 @@ use Rattle.cases.proofs.hand_cases.Needs as need
 
 pub returns : need.returns
 unfolding coded tabulate lastBelow divided inverseOf step steps
-returns c = ((refl, refl), ((refl, refl), ((refl, refl), ((refl, refl), (refl, (refl, tt))))))
+returns c = ((refl, refl), ((refl, refl), ((refl, refl), ((refl, refl), (refl, ((λ δ f g. refl), tt))))))

@@ -8,4 +8,4 @@ pub returns : need.returns
 unfolding coded step
 returns g c =
     let P = lists (coded (g .F·Field .arithmetic)) in
-    c .reduce .ensures ∙ ap (reduced P notZero) (c .swap-if-swapped .ensures .state ∙ ap (λ b. swapped b (heldIn (c .args .w))) (c .swaps .ensures))
+    c .reduce .ensures ∙ ap (reduced P notZero) (c .swap-if-swapped .ensures .state ∙ ap (λ b. swapped b (heldIn (c .args .w))) (c .swaps .ensures .test))
