@@ -31,7 +31,7 @@ module _ {C : Type 0} {O : Operations C} (R : CommutativeRing O) (nonzero : C �
         r-is = alike O _ _ (z .of-r ∙ sym (z′ .of-r)) (n .of-r);
       }
 
-  apply : (m : ℕ) (δ : ℤ) (f g : List C) → Pair O f g → Applied O nonzero m f g (after O nonzero m δ f g)
+  apply : (m : ℕ) (δ : ℤ) (f g : List C) → Pair O f g → Applied O m f g (after O nonzero m δ f g)
   apply m δ f g h =
       let e = looks R nonzero m m δ f g (h .long) (omega arith) in
       let a = subst (Carried O (at O f) (at O g) m) (sym e) (run-applied R nonzero m δ (at O f) (at O g) (h .normal-f) (h .normal-g)) in
@@ -42,7 +42,7 @@ module _ {C : Type 0} {O : Operations C} (R : CommutativeRing O) (nonzero : C �
 
   compose : (n m : ℕ) (δ : ℤ) (f g : List C) → Pair O f g →
       let a = after O nonzero n δ f g in
-      Composed O nonzero a (after O nonzero m (a .δ) (a .f) (a .g)) (after O nonzero (n + m) δ f g)
+      Composed O a (after O nonzero m (a .δ) (a .f) (a .g)) (after O nonzero (n + m) δ f g)
   compose n m δ f g h =
       let a = after O nonzero n δ f g in
       let za = sized O nonzero n n δ f g (h .long) in
