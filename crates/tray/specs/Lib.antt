@@ -1,0 +1,4 @@
+pub mod Calculus
+pub mod Effects
+pub mod Runs
+pub mod Law
