@@ -1,6 +1,8 @@
 //! How long products, inverses and the quotients of a tray take: times on standard error, one fixed line on standard
 //! output.
 
+#![tactic(auto)]
+
 mod trays;
 
 use crate::trays::time_trays;

@@ -1,5 +1,7 @@
 //! Cases worked by hand, as rows of one table, and the theorem that the definitions yield them.
 
+#![tactic(auto)]
+
 ghost use Rattle.cases.specs.Example.{RunOverFive};
 ghost use Rattle.cases.specs.Rows.{All, table};
 

@@ -3,7 +3,7 @@
 use Rattle.std.proofs.Common.{◌≡◌, ℕ, zero, suc, ◌+◌, ◌<◌, ◌≤◌, Bool, true, false, ◌&&◌, ltb, List, [], ◌∷◌, ◌++◌, length, get_or, take, sym, refl, ap, ◌∙◌, subst, ap₂, arith}
 use Rattle.std.proofs.lemmas.List.{take_more}
 use Rattle.std.proofs.lemmas.Bool.{lt-ltb, cond-true, cond_both, ltb-true}
-use Rattle.field.specs.Rings.{Operations, CommutativeRing, Normal}
+use Rattle.field.specs.Rings.{CommutativeRing, Normal}
 use Rattle.field.specs.Meaning.{Arithmetic, Code, ArithmeticLaws, code, coded, all_codes}
 
 and_true : (b : Bool) → (b && true) ≡ b

@@ -4,6 +4,8 @@
 //! code 0 for zero and code 1 for one. `ring`, `steps` and `tray` are generic over this trait and
 //! proved from its laws alone.
 
+#![tactic(auto)]
+
 ghost use Rattle.std.specs.Prelude.{◌≡◌, ℕ, ◌+◌, ◌<◌, ◌≤◌, length, Option, nat_lt, slice_index};
 ghost use Rattle.field.specs.Meaning.{Arithmetic, ArithmeticLaws, ReciprocalLaws, code, coded, all_codes};
 ghost use Rattle.field.specs.Convolution.{coefficient, convolution, mixed};

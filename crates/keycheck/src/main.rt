@@ -1,5 +1,7 @@
 //! Reads the text of a key from the standard input and says at how many places its lists agree.
 
+#![tactic(auto)]
+
 use keytext::confirm::{confirm_h, confirm_v};
 use keytext::key::read_key;
 use refusal::Refusal;

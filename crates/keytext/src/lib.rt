@@ -4,6 +4,8 @@
 //! A line of trits is its letter, a space and one digit 0, 1 or 2 for each trit, the constant first.
 //! The line h is its letter and, for each code of Z_4591, a space and the code in decimal.
 
+#![tactic(auto)]
+
 pub mod confirm;
 mod cut;
 pub mod key;

@@ -1,5 +1,7 @@
 //! Texts that are no keys, and keys whose lists do not agree, at degree 3.
 
+#![tactic(auto)]
+
 #[cfg(test)]
 mod tests {
     use keytext::confirm::{confirm_h, confirm_v};

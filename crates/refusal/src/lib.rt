@@ -1,6 +1,8 @@
 //! Why a call is refused. A call asks the questions that concern it in the order of their numbers;
 //! the first that is answered no gives the refusal.
 
+#![tactic(auto)]
+
 ghost use Rattle.std.specs.Prelude.{◌≡◌};
 ghost use Rattle.refusal.specs.Reports.{report_of};
 

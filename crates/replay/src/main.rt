@@ -13,6 +13,8 @@
 //! then the whole sheet after the call. Where the tray's state has no such call, or there is no tray, it is
 //! `not allowed`, and for any other text `not understood`. A tray that is there at the end is burnt.
 
+#![tactic(auto)]
+
 mod lines;
 mod numbers;
 mod pieces;

@@ -1,5 +1,7 @@
 //! The fields of residues modulo 3, 5 and 4591.
 
+#![tactic(auto)]
+
 ghost use Rattle.residues.specs.Residues.{residues, reciprocal_mod};
 ghost use Rattle.std.proofs.Common.{lit≤};
 ghost use Rattle.residues.specs.ResiduesLemmas.{residues_lawful};

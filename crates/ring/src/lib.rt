@@ -1,5 +1,7 @@
 //! Polynomials modulo x^p − x − 1 over any field: p codes, the constant first.
 
+#![tactic(auto)]
+
 mod addition;
 mod multiplication;
 mod questions;

@@ -1,5 +1,7 @@
 //! A guard over a scratch slice.
 
+#![tactic(auto)]
+
 ghost use Rattle.std.specs.Prelude.{◌≡◌, length, replicate};
 
 /// Holds a scratch slice, and fills it with zeros when it is dropped: on every way out of the function that

@@ -4,6 +4,8 @@
 //! it did is a run of calls, so the law of all runs holds of it: `tray_law` carries that law for every run and every
 //! two runs.
 
+#![tactic(auto)]
+
 mod perform;
 mod replays;
 mod scripts;

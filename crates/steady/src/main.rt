@@ -2,6 +2,8 @@
 //! input. Everything but the inversion does the same work for every seed, so that counting the
 //! instructions of this program for many seeds shows whether an inversion does.
 
+#![tactic(auto)]
+
 use field::Field;
 use residues::Z4591;
 use std::io::Read;

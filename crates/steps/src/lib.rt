@@ -1,5 +1,7 @@
 //! Division steps on polynomials over any field, and the inverse that is read off them.
 
+#![tactic(auto)]
+
 mod apply;
 mod inverse_call;
 mod inversion;

@@ -5,6 +5,8 @@
 //! one entry for three products. A burn ends a tray. What each call does is defined in the crate `traylaw`,
 //! where the law of all runs of calls is proved.
 
+#![tactic(auto)]
+
 mod burn_call;
 mod close_call;
 mod closing;

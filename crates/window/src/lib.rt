@@ -1,5 +1,7 @@
 //! A batch of at most sixteen division steps, on arrays by value; `steps` applies its matrix to whole lists.
 
+#![tactic(auto)]
+
 mod arrays;
 pub mod batch;
 mod window;

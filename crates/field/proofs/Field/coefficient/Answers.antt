@@ -1,4 +1,4 @@
-use Rattle.std.proofs.Common.{◌≡◌, ◌-◌, sym, refl, ap, ◌∙◌, ap₂, arith}
+use Rattle.std.proofs.Common.{◌-◌, sym, refl, ap, ◌∙◌, arith}
 use Rattle.field.specs.Meaning.{coded}
 use Rattle.field.specs.Convolution.{at, sum_below}
 use Rattle.field.proofs.Codes.{coded_ring}

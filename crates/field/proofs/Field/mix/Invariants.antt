@@ -1,6 +1,5 @@
 use Rattle.std.proofs.Common.{◌≡◌, ℕ, ◌<◌, ◌≤◌, get_or}
 use Rattle.field.specs.Meaning.{coded}
-use Rattle.field.specs.Convolution.{at}
 use Rattle.field.proofs.Field.mix.Given as goal
 
 -- mixed below k, and from k on as it was

@@ -1,4 +1,4 @@
 use Rattle.field.proofs.Field.product.Goals as goal
 
-pub product-by-terms-requires : goal.product-by-terms-requires
-product-by-terms-requires g c κs h a m = h a m
+pub product_by_terms-requires : goal.product_by_terms-requires
+product_by_terms-requires g c κs h a m = h a m
