@@ -1,6 +1,6 @@
 -- A product by groups of rows.
 -- Main results: `window_more`, `part_codes` and `part_small`, `group_step`, `front_codes` and `front_coef`.
-use Rattle.std.proofs.Common.{◌≡◌, ℕ, zero, suc, ◌+◌, ◌-◌, ◌*◌, ◌/◌, ◌%◌, ◌<◌, ◌≤◌, List, ◌++◌, length, get_or, take, replicate, sym, refl, ap, ◌∙◌, ap₂, inl, inr, add-zero, add_assoc, arith, take-add}
+use Rattle.std.proofs.Common.{◌≡◌, ℕ, ◌+◌, ◌-◌, ◌*◌, ◌/◌, ◌%◌, ◌<◌, ◌≤◌, List, ◌++◌, length, get_or, take, sym, ap, ◌∙◌, ap₂, inl, inr, add-zero, add_assoc, arith, take-add}
 use native.Mathlib.Nat.{mod-add-mod}
 use Rattle.std.specs.List.{between}
 use Rattle.std.proofs.lemmas.List.{get_or_past, get_or-take, length-take-le}

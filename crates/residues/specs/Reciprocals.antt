@@ -1,15 +1,15 @@
 -- Reciprocals modulo q. Two tests that antt computes, each once: over a whole table, carried to each of its entries, and
 -- over all residues by their powers, which shows that each but 0 has a reciprocal.
 -- Main results: `table_entry`, `powers_invert`.
-use Rattle.std.specs.Prelude.{◌≡◌, ℕ, zero, suc, ◌+◌, ◌*◌, ◌%◌, ◌^◌, ◌<◌, ◌≤◌, Bool, true, false, cond, ◌&&◌, T, ◌≢◌, ◌⊎◌, List, [], ◌∷◌, length, Some, None, Option, ◌==◌, nat_lt, slice_index, slice_index_or}
+use Rattle.std.specs.Prelude.{◌≡◌, ℕ, zero, suc, ◌+◌, ◌*◌, ◌%◌, ◌^◌, ◌<◌, ◌≤◌, Bool, true, false, cond, ◌&&◌, T, ◌≢◌, List, [], ◌∷◌, length, Some, None, ◌==◌, nat_lt, slice_index, slice_index_or}
 use Rattle.std.proofs.Math.Path.{refl, ap}
-use Rattle.std.proofs.Common.{sym, ◌∙◌, subst, add-zero, zero-add, add-suc, suc-add, zero-mul, mul_comm, mul_assoc, one-mul, mul-one, mod-eq_of_lt, mod-lt, arith, lit≤, ltb→lt, eqb→eq}
+use Rattle.std.proofs.Common.{sym, ◌∙◌, subst, add-zero, zero-add, add-suc, suc-add, zero-mul, mul_comm, mul_assoc, mul-one, mod-eq_of_lt, mod-lt, arith, lit≤, ltb→lt, eqb→eq}
 use Rattle.std.proofs.Math.Logic.{inl, inr}
 use Rattle.std.proofs.Math.Nat.{zero-mod}
 use Rattle.std.proofs.lemmas.Bool.{eq-eqb, ne_eqb, cases_eq}
 use Rattle.field.specs.Meaning.{ReciprocalLaws, IsReciprocal}
 use Rattle.residues.specs.Residues.{residues, last_below, reciprocal_mod, every, right_entry, ReciprocalTable}
-use Rattle.residues.specs.ResiduesLemmas.{mod_mul_mod, mul_mod_mod}
+use Rattle.residues.specs.ResiduesLemmas.{mul_mod_mod}
 
 and_left : (a b : Bool) → T (a && b) → T a
 and_left true b t = tt

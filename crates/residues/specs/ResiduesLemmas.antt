@@ -1,6 +1,6 @@
 -- The residues modulo any q keep the laws of a commutative ring.
 -- Main result: `residues_lawful`.
-use Rattle.std.specs.Prelude.{◌≡◌, ℕ, ◌+◌, ◌-◌, ◌*◌, ◌/◌, ◌%◌, ◌<◌, ◌≤◌, refl}
+use Rattle.std.specs.Prelude.{◌≡◌, ℕ, ◌+◌, ◌-◌, ◌*◌, ◌/◌, ◌%◌, ◌<◌, ◌≤◌}
 use Rattle.std.proofs.Common.{sym, ap, ◌∙◌, add-zero, mul-one, add_comm, add_assoc, mul_comm, mul_assoc, mul-add, add-mul, mod-lt, mod-eq_of_lt, arith}
 use Rattle.std.proofs.Math.Nat.{mod-add-mod, add-mod-mod, add-mod_right, add-mul-mod_self_left, mod-add-div}
 use Rattle.field.specs.Meaning.{ArithmeticLaws}

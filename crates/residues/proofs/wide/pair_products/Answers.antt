@@ -3,8 +3,8 @@ use Rattle.residues.proofs.wide.pair_products.Goals as goal
 
 small : (c : goal.After-odds) (k : ℕ) → k < 64 → get_or c.times-products.result k 0 ≤ 32767 * 32767
 small c k h =
-    let x : get_or c.widen-wide-x.result k 0 ≤ 32767 = omega (arith, c.widen-wide-x.ensures k h, c.requires.left k h) in
-    let y : get_or c.widen-wide-y.result k 0 ≤ 32767 = omega (arith, c.widen-wide-y.ensures k h, c.requires.right k h) in
+    let x : get_or c.widen-wide_x.result k 0 ≤ 32767 = omega (arith, c.widen-wide_x.ensures k h, c.requires.left k h) in
+    let y : get_or c.widen-wide_y.result k 0 ≤ 32767 = omega (arith, c.widen-wide_y.ensures k h, c.requires.right k h) in
     rw (c.times-products.ensures k h) (mul-le-mul x y)
 
 pub plus-requires : goal.plus-requires

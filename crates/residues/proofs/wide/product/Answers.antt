@@ -18,8 +18,8 @@ spread-requires g c = record {
 pub codes-requires : goal.codes-requires
 codes-requires g c = record { many = c.requires.many; room = c.requires.left; zeros = replicate_at 1280 0 }
 
-pub add-groups-requires : goal.add-groups-requires
-add-groups-requires g c =
+pub add_groups-requires : goal.add_groups-requires
+add_groups-requires g c =
     let m = c.evened.result in
     let rows = c.codes.new.rows in
     let fit : m ≤ length rows = omega (arith, c.evened.ensures.most, c.codes.auto.rows) in
@@ -45,12 +45,12 @@ returns g c =
     let n = length c.args.out.now in
     let m = c.evened.result in
     let rows = c.codes.new.rows in
-    let sums = c.add-groups.new.sums in
+    let sums = c.add_groups.new.sums in
     let fit : m ≤ length rows = omega (arith, c.evened.ensures.most, c.codes.auto.rows) in
-    tabulate_is n _ c.copy-from-slice.new.self 0 c.copy-from-slice.ensures.len
+    tabulate_is n _ c.copy_from_slice.new.self 0 c.copy_from_slice.ensures.len
     (λ k h.
-    ap (λ z. get_or z k 0) c.copy-from-slice.ensures.after
+    ap (λ z. get_or z k 0) c.copy_from_slice.ensures.after
     ∙ get_or-take n sums k 0 h
-    ∙ c.add-groups.ensures k
+    ∙ c.add_groups.ensures k
     ∙ ap (λ z. z % q) (front_coef q m rows xs c.codes.ensures c.evened.ensures.enough fit ys k)
     ∙ sym (coef_natural q (residues_lawful q c.requires.many (omega (arith, c.requires.few))) xs ys k))

@@ -4,18 +4,18 @@ use lib.Signed.{non_neg}
 use Rattle.residues.proofs.Casts.{Small, all_small, kept, each, to_signed, wider, wider_is, back, back_is}
 use Rattle.residues.proofs.wide.widen.Goals as goal
 
-pub overflow-cast-result : goal.overflow-cast-result
-overflow-cast-result c = each (λ a. SFits w16 (pos a)) to_signed c.args.x (all_small 64 c.args.x c.fits-x.0 c.requires)
+pub overflow_cast-result : goal.overflow_cast-result
+overflow_cast-result c = each (λ a. SFits w16 (pos a)) to_signed c.args.x (all_small 64 c.args.x c.fits-x.0 c.requires)
 
-pub overflow-cast-result-2 : goal.overflow-cast-result-2
-overflow-cast-result-2 c =
+pub overflow_cast-result-2 : goal.overflow_cast-result-2
+overflow_cast-result-2 c =
     let x = c.args.x in
     let s : Each1 Small x = all_small 64 x c.fits-x.0 c.requires in
     let P : ℕ → Type 0 = λ a. SFits w32 (to_z w16 a) in
     subst (Each1 P) (sym (kept (λ a. a) (λ a h. refl) x s)) (each P wider x s)
 
-pub overflow-cast-result-3 : goal.overflow-cast-result-3
-overflow-cast-result-3 c =
+pub overflow_cast-result-3 : goal.overflow_cast-result-3
+overflow_cast-result-3 c =
     let x = c.args.x in
     let s : Each1 Small x = all_small 64 x c.fits-x.0 c.requires in
     let P : ℕ → Type 0 = λ a. T (non_neg (to_z w32 a)) × Fits w32 (nat_abs (to_z w32 a)) in
