@@ -99,7 +99,7 @@ module _ (A : Arithmetic) (laws : ArithmeticLaws A) (recip : ℕ → Option ℕ)
           let v : ℕ → ℕ = λ k. at (coded A) (divided A p a).v (p - k) in
           ap (product (coded A) p a) (ap (tabulate p) (fun_ext (λ k. R.times_comm _ c)) ∙ sym (scaled_tabulate (coded A) p c v)) ∙ (product_linear R p big a).scales c _
           ∙ ap (scaled (coded A) p c) (product_comm R p big a _ ∙ o.inverts) ∙ sym (S.scale_times c _ _) ∙ ap (λ x. scaled (coded A) p x (unit (coded A) p)) (R.times_comm c _ ∙ e)
-          ∙ S.Scale-one _ ∙ (ring R p big).one_normal
+          ∙ S.scale_one _ ∙ (ring R p big).one_normal
 
     -- where δ is 0, the constant of f has a reciprocal
     record Read : Type 0 where

@@ -57,7 +57,7 @@ module _ {C : Type 0} {O : Operations C} (R : CommutativeRing O) (p : ℕ) (big 
   opposite : (v : List C) → Normal (polynomials O p) v → sum O p v (scaled O p minus_one v) ≡ zeros O p
   unfolding minus_one
   opposite v n =
-      ap₂ (sum O p) (sym n ∙ sym (L.Scale-one v)) refl ∙ L.add_comm _ _ ∙ sym (L.scale_plus _ O.one v)
+      ap₂ (sum O p) (sym n ∙ sym (L.scale_one v)) refl ∙ L.add_comm _ _ ∙ sym (L.scale_plus _ O.one v)
       ∙ ap (λ c. scaled O p c v) (R.minus_plus _ _ ∙ zero_normal R) ∙ L.scale_zero v
 
   -- 1/x = x^(p-1) - 1
@@ -105,7 +105,7 @@ module _ {C : Type 0} {O : Operations C} (R : CommutativeRing O) (p : ℕ) (big 
   unfolding modulus horner power minus_one
   vanishes =
       let l = power_linear L over_linear (suc (p - 2)) in
-      ap₂ (sum O p) (L.Scale-one e ∙ unit_is_normal)
+      ap₂ (sum O p) (L.scale_one e ∙ unit_is_normal)
       (ap over (horner_shift L over_linear (p - 2) (minus_one ∷ minus_one ∷ []) e ∙ ap (power over (p - 2)) (ap (sum O p _) (ap over (horner_one L over_linear minus_one e) ∙ over_linear.scales minus_one e) ∙ sym (L.scale_add minus_one e (over e))))
       ∙ l.scales minus_one _ ∙ ap (scaled O p minus_one) round)
       ∙ opposite e unit_is_normal
@@ -134,7 +134,7 @@ module _ {C : Type 0} {O : Operations C} (R : CommutativeRing O) (p : ℕ) (big 
             of_f = horner_longer L over_linear _ (modulus O p) e (omega (arith, length_modulus O p big)) ∙ vanishes ∙ sym (evaluated_zeros L over_linear _ _ γ (λ k. refl));
             of_g =
                 horner_longer L over_linear _ (reverse a) e (omega (arith, reverse_long))
-                ∙ sym (evaluated_constant L over_linear _ _ γ (λ k. refl) ∙ L.Scale-one γ ∙ horner_normal L over_linear (reverse a) e);
+                ∙ sym (evaluated_constant L over_linear _ _ γ (λ k. refl) ∙ L.scale_one γ ∙ horner_normal L over_linear (reverse a) e);
           }
       kept (suc n) h =
           let s = run O nonzero n (pos 1) (at O (modulus O p)) (at O (reverse a)) in
