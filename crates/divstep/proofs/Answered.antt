@@ -1,8 +1,8 @@
 -- What an inversion answers, from where its steps ended.
 -- Main results: `answers_none`, `answers_read`, `answers_right`.
-use Rattle.std.proofs.Common.{◌≡◌, ℕ, zero, suc, ◌-◌, ◌≤◌, Bool, true, false, cond, List, length, get_or, ℤ, pos, negsuc, is_some, Some, None, MatchBool, Option, unwrap_or, sym, refl, ap, ◌∙◌, subst, arith}
+use Rattle.std.proofs.Common.{◌≡◌, ℕ, zero, suc, ◌≤◌, Bool, true, false, cond, List, length, get_or, ℤ, pos, negsuc, is_some, Some, None, MatchBool, Option, unwrap_or, sym, refl, ap, ◌∙◌, subst, arith}
 use Rattle.field.specs.Meaning.{Arithmetic, ArithmeticLaws, ReciprocalLaws, code, coded, all_codes}
-use Rattle.field.specs.Convolution.{tabulate, at}
+use Rattle.field.specs.Convolution.{at}
 use Rattle.field.proofs.Codes.{code_of, all_codes_at}
 use Rattle.ring.specs.Laws.{Polynomial}
 use Rattle.divstep.specs.ReadOff.{is_zero, divided, read_off, inverse_of, IsInverse, NoInverseOf, Answers}

@@ -1,7 +1,6 @@
 -- n steps by batches are n single steps, and the half (v, r) of the matrix does not ask for the half (u, q).
 -- Main results: `batched_is`, `batched_bare`.
-use Rattle.std.proofs.Common.{◌≡◌, ℕ, zero, suc, ◌+◌, ◌*◌, ◌/◌, ◌%◌, ◌<◌, ◌≤◌, Bool, List, [], ℤ, sym, refl, ap, ◌∙◌, mod-lt, arith}
-use native.Mathlib.Nat.{div-add-mod}
+use Rattle.std.proofs.Common.{◌≡◌, ℕ, zero, suc, ◌+◌, ◌*◌, ◌/◌, ◌%◌, ◌≤◌, Bool, List, [], ℤ, refl, ap, ◌∙◌, arith}
 use Rattle.field.specs.Rings.{Operations, CommutativeRing}
 use Rattle.field.proofs.Tables.{tabulate_none}
 use Rattle.divstep.specs.Steps.{State, lists, begins, steps, after}

@@ -1,6 +1,6 @@
 -- What a run of batches from the matrix 1 comes to, whole and without u and q.
 -- Main results: `run_is`, `run_bare_is`, `divided_by_batches`.
-use Rattle.std.proofs.Common.{◌≡◌, ℕ, ◌+◌, ◌-◌, ◌<◌, ◌≤◌, Bool, true, List, [], ◌∷◌, ◌++◌, reverse, length, ℤ, pos, sym, refl, ap, ◌∙◌, ap₂, arith, length-append}
+use Rattle.std.proofs.Common.{◌≡◌, ℕ, ◌+◌, ◌-◌, ◌≤◌, Bool, true, List, [], ◌∷◌, ◌++◌, reverse, length, ℤ, pos, sym, ap, ◌∙◌, ap₂, arith, length-append}
 use lib.ListN.{length-replicate}
 use Rattle.std.proofs.lemmas.List.{length-reverse}
 use Rattle.field.specs.Rings.{Operations, CommutativeRing}
@@ -8,7 +8,7 @@ use Rattle.field.specs.Meaning.{Arithmetic, ArithmeticLaws, coded, all_codes}
 use Rattle.field.specs.Convolution.{tabulate}
 use Rattle.field.proofs.Codes.{coded_ring, all_codes_at, minus_is_code}
 use Rattle.ring.specs.Polynomials.{unit_at}
-use Rattle.divstep.specs.Steps.{State, after, begins, state_of, not_zero}
+use Rattle.divstep.specs.Steps.{after, begins, state_of, not_zero}
 use Rattle.divstep.specs.Batches.{batched}
 use Rattle.divstep.specs.Laws.{Pair}
 use Rattle.divstep.specs.ReadOff.{reversed_modulus, divided}

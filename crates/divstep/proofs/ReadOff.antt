@@ -5,7 +5,7 @@ use mathlib.Core.Path.{fun_ext}
 use lib.IntN.{ℤ_discrete}
 use borrow.Author.Differences.{ints}
 use Rattle.std.proofs.lemmas.List.{length-reverse}
-use Rattle.field.specs.Rings.{Operations, CommutativeRing, Normal}
+use Rattle.field.specs.Rings.{CommutativeRing, Normal}
 use Rattle.field.specs.Meaning.{Arithmetic, Code, ArithmeticLaws, IsReciprocal, ReciprocalLaws, coded}
 use Rattle.field.specs.Convolution.{tabulate, at}
 use Rattle.field.proofs.Tables.{padded}

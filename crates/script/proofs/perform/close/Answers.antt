@@ -17,10 +17,10 @@ returns-in-Ok g c =
     record {
       turn =
           turned K c.args.tray.capacity IsOpen c.args.tray.count c.args.sheet.now (a_close (length c.args.scratch.now)) _ left
-          (ClosedIn c.in-Ok.made.1) refl closed_made did.refused-as-asked did.steps-reported refl (ap (λ r. granted r IsClosed IsOpen) did.refused-as-asked) did.entries-stay.2
-          (ap₂ (λ p q. take (room p q) left) did.entries-stay.0 did.entries-stay.1) did.sheet-holds-products c.close.auto.sheet;
-      degree = did.entries-stay.0;
-      capacity = did.entries-stay.1;
+          (ClosedIn c.in-Ok.made.1) refl closed_made did.refused_as_asked did.steps_reported refl (ap (λ r. granted r IsClosed IsOpen) did.refused_as_asked) did.entries_stay.2
+          (ap₂ (λ p q. take (room p q) left) did.entries_stay.0 did.entries_stay.1) did.sheet_holds_products c.close.auto.sheet;
+      degree = did.entries_stay.0;
+      capacity = did.entries_stay.1;
     }
 
 pub returns-in-Err : goal.returns-in-Err
@@ -31,9 +31,9 @@ returns-in-Err g c =
     record {
       turn =
           turned K c.args.tray.capacity IsOpen c.args.tray.count c.args.sheet.now (a_close (length c.args.scratch.now)) _ left
-          (Refused c.in-Err.back.1) refl refused_made did.refused-as-asked (ap (λ r. granted r (inversion_steps c.args.tray.p) 0) did.refused-as-asked) refl (ap (λ r. granted r IsClosed IsOpen) did.refused-as-asked)
-          (ap (λ (t : OpenTray). t.count) did.entries-stay)
-          (ap (λ (t : OpenTray). take (room t.p t.capacity) left) did.entries-stay) did.sheet-holds-products c.close.auto.sheet;
-      degree = ap (λ (t : OpenTray). t.p) did.entries-stay;
-      capacity = ap (λ (t : OpenTray). t.capacity) did.entries-stay;
+          (Refused c.in-Err.back.1) refl refused_made did.refused_as_asked (ap (λ r. granted r (inversion_steps c.args.tray.p) 0) did.refused_as_asked) refl (ap (λ r. granted r IsClosed IsOpen) did.refused_as_asked)
+          (ap (λ (t : OpenTray). t.count) did.entries_stay)
+          (ap (λ (t : OpenTray). take (room t.p t.capacity) left) did.entries_stay) did.sheet_holds_products c.close.auto.sheet;
+      degree = ap (λ (t : OpenTray). t.p) did.entries_stay;
+      capacity = ap (λ (t : OpenTray). t.capacity) did.entries_stay;
     }

@@ -17,15 +17,15 @@ returns g c =
     let given : List ℕ = vec_items c.args.quotient in
     let does : List ℕ → After = λ out. after_draw K c.args.tray.capacity c.args.tray.count c.args.sheet.now out (length c.args.scratch.now) in
     let same : does c.as-mut-slice.result.now ≡ does given = ap does c.as-mut-slice.ensures.value in
-    let refusal : result_err c.draw-result.result ≡ (does given).refusal = did.refused-as-asked ∙ ap (λ (a : After). a.refusal) same in
+    let refusal : result_err c.draw-result.result ≡ (does given).refusal = did.refused_as_asked ∙ ap (λ (a : After). a.refusal) same in
     let long : length c.draw-result.new.out ≡ c.args.quotient.len = c.draw-result.auto.out ∙ c.as-mut-slice.ensures.len in
-    let out = with_items_is c.args.quotient c.draw-result.new.out long ∙ did.out-is-quotient ∙ ap (λ (a : After). a.out) same in
+    let out = with_items_is c.args.quotient c.draw-result.new.out long ∙ did.out_is_quotient ∙ ap (λ (a : After). a.out) same in
     record {
       turn =
           turned K c.args.tray.capacity IsClosed c.args.tray.count c.args.sheet.now (a_draw given (length c.args.scratch.now)) _ left
           c.drawn.result refl o.allowed (o.refusal ∙ refusal) o.steps
-          (ap (λ q. unwrap_or q given) o.quotient ∙ drawn_out c.draw-result.result _ _ given _ refusal out) refl (did.entry-removed ∙ ap (λ (a : After). a.count) same)
-          (ap₂ (λ p q. take (room p q) left) did.degree-stays did.capacity-stays) (did.sheet-drawn ∙ ap (λ (a : After). a.sheet) same) c.draw-result.auto.sheet;
-      degree = did.degree-stays;
-      capacity = did.capacity-stays;
+          (ap (λ q. unwrap_or q given) o.quotient ∙ drawn_out c.draw-result.result _ _ given _ refusal out) refl (did.entry_removed ∙ ap (λ (a : After). a.count) same)
+          (ap₂ (λ p q. take (room p q) left) did.degree_stays did.capacity_stays) (did.sheet_drawn ∙ ap (λ (a : After). a.sheet) same) c.draw-result.auto.sheet;
+      degree = did.degree_stays;
+      capacity = did.capacity_stays;
     }

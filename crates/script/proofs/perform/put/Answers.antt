@@ -15,8 +15,8 @@ returns g c =
     record {
       turn =
           turned K c.args.tray.capacity IsOpen c.args.tray.count c.args.sheet.now (a_put c.args.numerator.now c.args.denominator.now) _ left
-          c.outcome-of-outcome.result refl o.allowed (o.refusal ∙ did.refused-as-asked) o.steps (ap (λ q. unwrap_or q []) o.quotient) refl did.entry-counted
-          (ap₂ (λ p q. take (room p q) left) did.degree-stays did.capacity-stays) did.sheet-holds-entry c.put.auto.sheet;
-      degree = did.degree-stays;
-      capacity = did.capacity-stays;
+          c.outcome-of-outcome.result refl o.allowed (o.refusal ∙ did.refused_as_asked) o.steps (ap (λ q. unwrap_or q []) o.quotient) refl did.entry_counted
+          (ap₂ (λ p q. take (room p q) left) did.degree_stays did.capacity_stays) did.sheet_holds_entry c.put.auto.sheet;
+      degree = did.degree_stays;
+      capacity = did.capacity_stays;
     }

@@ -15,8 +15,8 @@ returns g c =
     record {
       turn =
           turned K c.args.tray.capacity IsOpen c.args.tray.count c.args.sheet.now (a_take_back) _ left
-          c.outcome-of-outcome.result refl o.allowed (o.refusal ∙ did.refused-as-asked) o.steps (ap (λ q. unwrap_or q []) o.quotient) refl did.entry-removed
-          (ap₂ (λ p q. take (room p q) left) did.degree-stays did.capacity-stays) did.shelves-zero c.take-back.auto.sheet;
-      degree = did.degree-stays;
-      capacity = did.capacity-stays;
+          c.outcome-of-outcome.result refl o.allowed (o.refusal ∙ did.refused_as_asked) o.steps (ap (λ q. unwrap_or q []) o.quotient) refl did.entry_removed
+          (ap₂ (λ p q. take (room p q) left) did.degree_stays did.capacity_stays) did.shelves_zero c.take-back.auto.sheet;
+      degree = did.degree_stays;
+      capacity = did.capacity_stays;
     }

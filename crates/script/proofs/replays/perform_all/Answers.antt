@@ -9,7 +9,7 @@ use Rattle.script.proofs.Performances.{at_ok, started, ended, again}
 use Rattle.script.proofs.replays.perform_all.Goals as goal
 
 pub loop-call-init : goal.loop-call-init
-loop-call-init g c = (started _ _ _ _ (vec_items c.new-answers.result) c.requires.just-opened c.new-answers.ensures.items, refl, refl)
+loop-call-init g c = (started _ _ _ _ (vec_items c.new-answers.result) c.requires.just_opened c.new-answers.ensures.items, refl, refl)
 
 pub loop-call-preserved : goal.loop-call-preserved
 loop-call-preserved g c =

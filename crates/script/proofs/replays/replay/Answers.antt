@@ -22,26 +22,26 @@ returns-in-Ok-gather g c =
     let gathered = c.in-Ok-gather.ensures in
     let state = c.perform-all-state.result.0 in
     let after : List ℕ = c.perform-all-state.new.sheet in
-    let fits = long_enough p q sheet opens.refused-as-asked in
+    let fits = long_enough p q sheet opens.refused_as_asked in
     let long : length after ≡ n = c.perform-all-state.auto.sheet ∙ c.open.auto.sheet in
     let big : room p q ≤ length after = omega arith in
     let tray = c.in-Ok.opened.0 in
     let performed = at_ok _ c.in-Ok-gather.done.answers _ gathered.1 did.performed in
     let answers : List Answer = vec_items c.in-Ok-gather.done.answers in
     let P : ℕ → ℕ → ℕ → Type 0 = λ x y z. Performed (calculus A recip x) y z c.args.script.now answers (tray_of state after) in
-    let p1 : P p tray.capacity (length c.open.new.sheet) = subst (λ (x : ℕ). P x tray.capacity (length c.open.new.sheet)) opens.tray-empty.0 performed in
-    let p2 : P p q (length c.open.new.sheet) = subst (λ (y : ℕ). P p y (length c.open.new.sheet)) opens.tray-empty.1 p1 in
+    let p1 : P p tray.capacity (length c.open.new.sheet) = subst (λ (x : ℕ). P x tray.capacity (length c.open.new.sheet)) opens.tray_empty.0 performed in
+    let p2 : P p q (length c.open.new.sheet) = subst (λ (y : ℕ). P p y (length c.open.new.sheet)) opens.tray_empty.1 p1 in
     let p3 : P p q n = subst (λ (z : ℕ). P p q z) c.open.auto.sheet p2 in
     let L = lawful A g.met.F.Field.lawful recip g.met.F.Field.inverts p fits.0 in
     record {
-      refused-as-asked = opens.refused-as-asked;
-      opened-shown =
-          (at_ok _ c.in-Ok-gather.done.opened _ gathered.0 c.from-slice-opened.ensures.made).0 ∙ opens.sheet-cleared
-          ∙ ap (λ r. granted r (clear_sheet p q sheet) sheet) (sym opens.refused-as-asked);
+      refused_as_asked = opens.refused_as_asked;
+      opened_shown =
+          (at_ok _ c.in-Ok-gather.done.opened _ gathered.0 c.from-slice-opened.ensures.made).0 ∙ opens.sheet_cleared
+          ∙ ap (λ r. granted r (clear_sheet p q sheet) sheet) (sym opens.refused_as_asked);
       runs =
-          replayed (calculus A recip p) L q n c.args.script.now c.in-Ok-gather.done state after (did.degree ∙ opens.tray-empty.0) (did.capacity ∙ opens.tray-empty.1) long
-          (gathered.2 ∙ c.burn-left.ensures.entries-left) p3;
-      shelves-zero = cleared p q _ _ after _ (did.degree ∙ opens.tray-empty.0) (did.capacity ∙ opens.tray-empty.1) big c.burn-left.ensures.shelves-zero;
+          replayed (calculus A recip p) L q n c.args.script.now c.in-Ok-gather.done state after (did.degree ∙ opens.tray_empty.0) (did.capacity ∙ opens.tray_empty.1) long
+          (gathered.2 ∙ c.burn-left.ensures.entries_left) p3;
+      shelves_zero = cleared p q _ _ after _ (did.degree ∙ opens.tray_empty.0) (did.capacity ∙ opens.tray_empty.1) big c.burn-left.ensures.shelves_zero;
     }
 
 pub returns-in-Err-gather : goal.returns-in-Err-gather
@@ -50,10 +50,10 @@ returns-in-Err-gather g c =
     let q = c.args.capacity in
     let opens = c.in-Ok.ensures in
     let did = c.perform-all-state.ensures in
-    let big : room p q ≤ length c.perform-all-state.new.sheet = omega (arith, long_enough p q c.args.sheet.now opens.refused-as-asked, c.perform-all-state.auto.sheet, c.open.auto.sheet) in
+    let big : room p q ≤ length c.perform-all-state.new.sheet = omega (arith, long_enough p q c.args.sheet.now opens.refused_as_asked, c.perform-all-state.auto.sheet, c.open.auto.sheet) in
     record {
-      refused-as-asked = opens.refused-as-asked;
-      opened-shown = tt;
+      refused_as_asked = opens.refused_as_asked;
+      opened_shown = tt;
       runs = tt;
-      shelves-zero = cleared p q _ _ c.perform-all-state.new.sheet _ (did.degree ∙ opens.tray-empty.0) (did.capacity ∙ opens.tray-empty.1) big c.burn-left.ensures.shelves-zero;
+      shelves_zero = cleared p q _ _ c.perform-all-state.new.sheet _ (did.degree ∙ opens.tray_empty.0) (did.capacity ∙ opens.tray_empty.1) big c.burn-left.ensures.shelves_zero;
     }

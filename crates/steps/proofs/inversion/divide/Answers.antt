@@ -13,6 +13,6 @@ returns g c =
     let a = c.args.a.now in
     let small : nat_abs c.run.result ≤ 200000 = omega (arith, c.run.ensures.small, c.requires.most) in
     let e = c.run.ensures.state
-    ∙ divided_by_batches A g.met.F.Field.lawful c.args.p a c.requires.least c.requires.long-a c.requires.codes _ _ _ _ _ _ _ refl c.set-reversed-modulus.ensures c.set-reversed.ensures refl
+    ∙ divided_by_batches A g.met.F.Field.lawful c.args.p a c.requires.least c.requires.long_a c.requires.codes _ _ _ _ _ _ _ refl c.set-reversed-modulus.ensures c.set-reversed.ensures refl
     (resized (λ _. O.zero) c.set-zero.ensures c.requires.long_v) refl (resized (unit_at O) c.set-one.ensures c.requires.long_r) in
-    record { delta = back c.run.result small ∙ ap (λ s. s.δ) e; f-divided = ap (λ s. s.f) e; v-divided = ap (λ s. s.v) e }
+    record { delta = back c.run.result small ∙ ap (λ s. s.δ) e; f_divided = ap (λ s. s.f) e; v_divided = ap (λ s. s.v) e }

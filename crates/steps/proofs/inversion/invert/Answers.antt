@@ -16,8 +16,8 @@ returns-then-not-ended g c =
     let none = answers_none A g.F.Field.recip c.args.p a c.divide-delta.result c.divide-delta.ensures.delta other in
     record {
       found = sym (ap is_some none);
-      out-as-read-off = sym (ap (λ o. unwrap_or o out) none);
-      exactly = answers_right A g.F.Field.recip c.args.p a g.met.F.Field.lawful g.met.F.Field.inverts c.requires.least c.requires.long-a c.requires.codes None false out out none refl refl;
+      out_as_read_off = sym (ap (λ o. unwrap_or o out) none);
+      exactly = answers_right A g.F.Field.recip c.args.p a g.met.F.Field.lawful g.met.F.Field.inverts c.requires.least c.requires.long_a c.requires.codes None false out out none refl refl;
     }
 
 pub returns-in-Some : goal.returns-in-Some
@@ -29,13 +29,13 @@ returns-in-Some g c =
     let made = c.divide-delta.ensures in
     let same : to_z w32 (of_z w32 c.divide-delta.result) ≡ c.divide-delta.result = omega (arith, ints) in
     let zero : is_zero c.divide-delta.result ≡ true = ap is_zero (sym same) ∙ sym c.ended.ensures ∙ c.if-not-ended.false in
-    let answer = answers_read A g.F.Field.recip p a g.met.F.Field.lawful g.met.F.Field.inverts c.requires.least c.requires.long-a c.requires.codes c.divide-delta.result c.divide-delta.new.f (Some c.in-Some.c) made.delta zero made.f-divided c.in-Some.ensures in
+    let answer = answers_read A g.F.Field.recip p a g.met.F.Field.lawful g.met.F.Field.inverts c.requires.least c.requires.long_a c.requires.codes c.divide-delta.result c.divide-delta.new.f (Some c.in-Some.c) made.delta zero made.f_divided c.in-Some.ensures in
     let row : ℕ → List ℕ → List ℕ = λ n v. tabulate n (λ k. (coded A).times (get_or v (n - k) 0) c.in-Some.c) in
-    let out : c.read-off.new.out ≡ row p (divided A p a).v = c.read-off.ensures ∙ ap₂ row c.requires.long-out made.v-divided in
+    let out : c.read-off.new.out ≡ row p (divided A p a).v = c.read-off.ensures ∙ ap₂ row c.requires.long_out made.v_divided in
     record {
       found = sym (ap is_some answer);
-      out-as-read-off = out ∙ sym (ap (λ o. unwrap_or o c.args.out.now) answer);
-      exactly = answers_right A g.F.Field.recip p a g.met.F.Field.lawful g.met.F.Field.inverts c.requires.least c.requires.long-a c.requires.codes _ true c.read-off.new.out c.args.out.now answer refl out;
+      out_as_read_off = out ∙ sym (ap (λ o. unwrap_or o c.args.out.now) answer);
+      exactly = answers_right A g.F.Field.recip p a g.met.F.Field.lawful g.met.F.Field.inverts c.requires.least c.requires.long_a c.requires.codes _ true c.read-off.new.out c.args.out.now answer refl out;
     }
 
 pub returns-in-None : goal.returns-in-None
@@ -46,11 +46,11 @@ returns-in-None g c =
     let made = c.divide-delta.ensures in
     let same : to_z w32 (of_z w32 c.divide-delta.result) ≡ c.divide-delta.result = omega (arith, ints) in
     let zero : is_zero c.divide-delta.result ≡ true = ap is_zero (sym same) ∙ sym c.ended.ensures ∙ c.if-not-ended.false in
-    let answer = answers_read A g.F.Field.recip c.args.p a g.met.F.Field.lawful g.met.F.Field.inverts c.requires.least c.requires.long-a c.requires.codes c.divide-delta.result c.divide-delta.new.f None made.delta zero made.f-divided c.in-None.ensures in
+    let answer = answers_read A g.F.Field.recip c.args.p a g.met.F.Field.lawful g.met.F.Field.inverts c.requires.least c.requires.long_a c.requires.codes c.divide-delta.result c.divide-delta.new.f None made.delta zero made.f_divided c.in-None.ensures in
     record {
       found = sym (ap is_some answer);
-      out-as-read-off = sym (ap (λ o. unwrap_or o out) answer);
-      exactly = answers_right A g.F.Field.recip c.args.p a g.met.F.Field.lawful g.met.F.Field.inverts c.requires.least c.requires.long-a c.requires.codes None false out out answer refl refl;
+      out_as_read_off = sym (ap (λ o. unwrap_or o out) answer);
+      exactly = answers_right A g.F.Field.recip c.args.p a g.met.F.Field.lawful g.met.F.Field.inverts c.requires.least c.requires.long_a c.requires.codes None false out out answer refl refl;
     }
 
 pub read-off-requires : goal.read-off-requires

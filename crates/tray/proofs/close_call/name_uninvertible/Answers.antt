@@ -15,8 +15,8 @@ first-uninvertible-requires g c =
       few = omega arith;
       within = omega arith;
       long = c.requires.long;
-      long-scratch = c.requires.long-scratch;
-      codes-denominators = λ k h. denominator_coded K c.args.sheet.now c.args.count k h c.requires.codes-denominators;
+      long_scratch = c.requires.long_scratch;
+      codes_denominators = λ k h. denominator_coded K c.args.sheet.now c.args.count k h c.requires.codes_denominators;
     }
 
 pub returns : goal.returns

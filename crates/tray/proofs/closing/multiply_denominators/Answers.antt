@@ -14,10 +14,10 @@ loop-i-init g c =
     let K : Calculus = calculus A recip p in
     let sheet = c.args.sheet.now in
     let some : 0 < c.args.n = omega arith in
-    let codes = denominator_coded K sheet c.args.n 0 some c.requires.codes-denominators in
-    let is : c.copy-from-slice.new.self ≡ denominator_at p 0 sheet = c.copy-from-slice.ensures.after ∙ c.shelf.ensures.on-shelf in
+    let codes = denominator_coded K sheet c.args.n 0 some c.requires.codes_denominators in
+    let is : c.copy-from-slice.new.self ≡ denominator_at p 0 sheet = c.copy-from-slice.ensures.after ∙ c.shelf.ensures.on_shelf in
     let L = lawful A g.met.F.Field.lawful recip g.met.F.Field.inverts p c.requires.least in (
-      is ∙ sym (product_one K sheet L (record { long = sym (ap length c.shelf.ensures.on-shelf) ∙ c.shelf.ensures.len; codes = codes })),
+      is ∙ sym (product_one K sheet L (record { long = sym (ap length c.shelf.ensures.on_shelf) ∙ c.shelf.ensures.len; codes = codes })),
       ap (all_codes A.size) is ∙ codes,
     )
 
@@ -25,7 +25,7 @@ pub times-denominator-requires : goal.times-denominator-requires
 times-denominator-requires g c =
     let K : Calculus = calculus g.F.Field.arithmetic g.F.Field.recip c.args.p in
     let h : c.loop-i.i < c.args.n = omega arith in
-    let codes = denominator_coded K c.args.sheet.now c.args.n c.loop-i.i h c.requires.codes-denominators in
+    let codes = denominator_coded K c.args.sheet.now c.args.n c.loop-i.i h c.requires.codes_denominators in
     search rules
 
 pub loop-i-preserved : goal.loop-i-preserved

@@ -15,11 +15,11 @@ loop-i-init g c =
     let K : Calculus = calculus A recip p in
     let sheet = c.args.sheet.now in
     let some : 0 < c.args.n + 1 = omega arith in
-    let codes = denominator_coded K sheet (c.args.n + 1) 0 some c.requires.codes-denominators in
-    let is : c.copy-from-slice.new.self ≡ denominator_at p 0 sheet = c.copy-from-slice.ensures.after ∙ c.shelf.ensures.on-shelf in
+    let codes = denominator_coded K sheet (c.args.n + 1) 0 some c.requires.codes_denominators in
+    let is : c.copy-from-slice.new.self ≡ denominator_at p 0 sheet = c.copy-from-slice.ensures.after ∙ c.shelf.ensures.on_shelf in
     let L = lawful A g.met.F.Field.lawful recip g.met.F.Field.inverts p c.requires.least in (
       sym (products_none K sheet),
-      is ∙ sym (product_one K sheet L (record { long = sym (ap length c.shelf.ensures.on-shelf) ∙ c.shelf.ensures.len; codes = codes })),
+      is ∙ sym (product_one K sheet L (record { long = sym (ap length c.shelf.ensures.on_shelf) ∙ c.shelf.ensures.len; codes = codes })),
       ap (all_codes A.size) is ∙ codes,
       refl,
     )
@@ -36,7 +36,7 @@ pub times-denominator-requires : goal.times-denominator-requires
 times-denominator-requires g c =
     let K : Calculus = calculus g.F.Field.arithmetic g.F.Field.recip c.args.p in
     let h : c.loop-i.i + 1 < c.args.n + 1 = omega arith in
-    let codes = denominator_coded K c.args.sheet.now (c.args.n + 1) (c.loop-i.i + 1) h c.requires.codes-denominators in
+    let codes = denominator_coded K c.args.sheet.now (c.args.n + 1) (c.loop-i.i + 1) h c.requires.codes_denominators in
     let long : length c.loop-i.running ≡ c.args.p = omega (arith, c.loop-i.auto.running, c.copy-from-slice.ensures.len) in
     let same = denominator_behind c.args.p (c.loop-i.i + 1) c.put-on.new.sheet c.args.sheet.now (entry_after_put c.args.p c.args.capacity c.loop-i.i c.args.sheet.now c.loop-i.sheet c.put-on.new.sheet c.loop-i.running (omega arith) (omega arith) c.loop-i.auto.sheet long c.loop-i.invariant.3 c.put-on.ensures) in
     record {
@@ -45,9 +45,9 @@ times-denominator-requires g c =
       few = omega arith;
       within = omega arith;
       long = omega (arith, c.put-on.auto.sheet, c.loop-i.auto.sheet);
-      long-running = long;
-      codes-running = c.loop-i.invariant.2;
-      codes-denominator = ap (all_codes g.F.Field.arithmetic.size) same ∙ codes;
+      long_running = long;
+      codes_running = c.loop-i.invariant.2;
+      codes_denominator = ap (all_codes g.F.Field.arithmetic.size) same ∙ codes;
     }
 
 pub loop-i-preserved : goal.loop-i-preserved

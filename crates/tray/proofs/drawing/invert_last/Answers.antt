@@ -18,9 +18,9 @@ times-before-requires g c =
       later = later;
       within = omega arith;
       long = c.requires.long;
-      long-out = c.requires.long-out;
-      codes-product = last_product_coded K sheet c.args.i c.requires.codes;
-      codes-before = sym (coded_later K sheet c.args.i later) ∙ before_coded K sheet c.args.i c.requires.codes;
+      long_out = c.requires.long_out;
+      codes_product = last_product_coded K sheet c.args.i c.requires.codes;
+      codes_before = sym (coded_later K sheet c.args.i later) ∙ before_coded K sheet c.args.i c.requires.codes;
     }
 
 pub returns-then-i-eq0 : goal.returns-then-i-eq0
@@ -32,8 +32,8 @@ returns-then-i-eq0 g c =
     let sheet = c.args.sheet.now in
     let zero : c.args.i ≡ 0 = omega arith in
     let codes : all_codes A.size (product_at p 0 sheet) ≡ true = ap (λ n. all_codes A.size (product_at p n sheet)) (sym zero) ∙ last_product_coded K sheet c.args.i c.requires.codes in
-    let long : length (product_at p 0 sheet) ≡ p = sym (ap length c.shelf.ensures.on-shelf) ∙ c.shelf.ensures.len in
-    let is : c.copy-from-slice.new.self ≡ product_at p 0 sheet = c.copy-from-slice.ensures.after ∙ c.shelf.ensures.on-shelf in
+    let long : length (product_at p 0 sheet) ≡ p = sym (ap length c.shelf.ensures.on_shelf) ∙ c.shelf.ensures.len in
+    let is : c.copy-from-slice.new.self ≡ product_at p 0 sheet = c.copy-from-slice.ensures.after ∙ c.shelf.ensures.on_shelf in
     let L = lawful A g.met.F.Field.lawful recip g.met.F.Field.inverts p c.requires.least in
     record {
       inverted = is ∙ sym (inverse_first K sheet c.args.i L (record { long = long; codes = codes }) zero);

@@ -17,4 +17,4 @@ returns c =
     let within = shelf_within p c.args.capacity k c.requires.within in
     let l : p ≤ length (drop (k * p) s) = omega (arith, length-drop (k * p) s) in
     let same = ap (λ n. take n (drop (k * p) s)) e in
-    record { on-shelf = same; len = ap length same ∙ length-take-le p (drop (k * p) s) l }
+    record { on_shelf = same; len = ap length same ∙ length-take-le p (drop (k * p) s) l }
