@@ -1,4 +1,4 @@
-use Rattle.std.proofs.Common.{◌≡◌, ℕ, ◌≤◌, Bool, true, false, cond, eqb, ◌⊎◌, ℤ, pos, ◌-ℤ◌, ◌*ℤ◌, neg_ℤ, nat_abs, sym, ap, ◌∙◌, subst, inl, inr, arith, w32, SFits, to_z, of_z}
+use Rattle.std.proofs.Common.{◌≡◌, ℕ, ◌≤◌, cond, eqb, ℤ, pos, ◌-ℤ◌, ◌*ℤ◌, neg_ℤ, nat_abs, sym, subst, inl, inr, arith, w32, SFits, to_z, of_z}
 use borrow.Author.Differences.{ints}
 use Rattle.window.proofs.Masks.{a_bit}
 use Rattle.window.proofs.batch.negate_if.Goals as goal
@@ -23,9 +23,9 @@ module _ (d : ℤ) (f : SFits w32 d) (h : nat_abs d ≤ 100000) where
   unfolding product
   negated = omega (arith, ints)
 
-pub overflow-mul-result : goal.overflow-mul-result
+pub overflow_mul-result : goal.overflow_mul-result
 unfolding product
-overflow-mul-result c =
+overflow_mul-result c =
     let d : ℤ = c.args.d in
     elim (a_bit c.args.bit c.requires.bit) [
       | inl e ↦ subst (λ n. SFits w32 (product n d)) (sym e) (fits_0 d c.ranges.d c.requires.small)

@@ -8,4 +8,4 @@ pub returns : goal.returns
 unfolding coded step
 returns g c =
     let P = lists (coded g.F.Field.arithmetic) in
-    c.reduce.ensures ∙ ap (reduced P not_zero) (c.swap-if-swapped.ensures.state ∙ ap (λ b. swapped b (held_in c.args.w)) c.swaps.ensures.test)
+    c.reduce.ensures ∙ ap (reduced P not_zero) (c.swap_if-swapped.ensures.state ∙ ap (λ b. swapped b (held_in c.args.w)) c.swaps.ensures.test)
