@@ -1,6 +1,6 @@
 -- Counting the places where two lists agree, and lists of trits as lists of codes.
 -- Main results: `full_agreement`, `tripled_codes`.
-use Rattle.std.proofs.Common.{◌≡◌, ℕ, zero, suc, ◌+◌, ◌*◌, ◌<◌, ◌≤◌, Bool, true, false, cond, ◌&&◌, eqb, leb, List, [], ◌∷◌, ◌++◌, map, length, get_or, take, drop, set, IfOk, None, Result, sym, refl, ap, ◌∙◌, ap₂, ⊎_elim, mod-lt, arith}
+use Rattle.std.proofs.Common.{◌≡◌, ℕ, zero, suc, ◌+◌, ◌*◌, ◌<◌, ◌≤◌, Bool, true, false, ◌&&◌, eqb, leb, List, [], ◌∷◌, ◌++◌, map, length, get_or, take, drop, set, IfOk, None, Result, sym, refl, ap, ◌∙◌, ap₂, ⊎_elim, mod-lt, arith}
 use Rattle.std.proofs.lemmas.List.{take_more, take_more_set, take_all, length-map, map_push, drop_more, drop_all}
 use Rattle.std.proofs.lemmas.Bool.{eqb-true, eq-eqb, ne_eqb, cases_Bool, and_parts, cond-true, cond-false, and_from, lt-ltb}
 use Rattle.std.proofs.lemmas.Result.{IfOk-weaker}

@@ -10,8 +10,8 @@ use Rattle.keytext.proofs.confirm.confirm_h.Goals as goal
 pub returns : goal.returns
 returns c =
     record {
-      refused-as-asked = c.compare-h.ensures.refused-as-asked ∙ ring_asked c.args.p c.args.g.now c.args.f.now c.args.h.now c.in-ok-ask-lists.ensures;
-      counts = c.compare-h.ensures.counts;
-      all-is-equal =
-          equal_from_all c.compare-h.result _ _ c.args.p (length_product (coded (residues 4591)) c.args.p _ _) (length-map c.args.g.now lift ∙ g_long c.args.p c.args.g.now c.args.f.now c.args.h.now c.in-ok-ask-lists.ensures) c.compare-h.ensures.counts;
+      refused_as_asked = c.compare_h.ensures.refused_as_asked ∙ ring_asked c.args.p c.args.g.now c.args.f.now c.args.h.now c.in_ok-ask_lists.ensures;
+      counts = c.compare_h.ensures.counts;
+      all_is_equal =
+          equal_from_all c.compare_h.result _ _ c.args.p (length_product (coded (residues 4591)) c.args.p _ _) (length-map c.args.g.now lift ∙ g_long c.args.p c.args.g.now c.args.f.now c.args.h.now c.in_ok-ask_lists.ensures) c.compare_h.ensures.counts;
     }

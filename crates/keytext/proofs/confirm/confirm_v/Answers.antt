@@ -7,8 +7,8 @@ use Rattle.keytext.proofs.confirm.confirm_v.Goals as goal
 pub returns : goal.returns
 returns c =
     record {
-      refused-as-asked = c.compare-v.ensures.refused-as-asked;
-      counts = c.compare-v.ensures.counts;
-      all-is-equal =
-          equal_from_all c.compare-v.result _ _ c.args.p (length_product (coded (residues 3)) c.args.p _ _) (length_unit (coded (residues 3)) c.args.p) c.compare-v.ensures.counts;
+      refused_as_asked = c.compare_v.ensures.refused_as_asked;
+      counts = c.compare_v.ensures.counts;
+      all_is_equal =
+          equal_from_all c.compare_v.result _ _ c.args.p (length_product (coded (residues 3)) c.args.p _ _) (length_unit (coded (residues 3)) c.args.p) c.compare_v.ensures.counts;
     }

@@ -9,7 +9,7 @@ pub loop-k-preserved : goal.loop-k-preserved
 loop-k-preserved c =
     below_more _ _
     (λ j h. get_or-set_other c.loop-k.out c.loop-k.k j _ 0 (omega arith) ∙ c.loop-k.invariant j h)
-    (get_or-set_same c.loop-k.out c.loop-k.k _ 0 (omega arith) ∙ c.coefficient-of-one.ensures ∙ one_at_lem c.loop-k.k)
+    (get_or-set_same c.loop-k.out c.loop-k.k _ 0 (omega arith) ∙ c.coefficient_of_one.ensures ∙ one_at_lem c.loop-k.k)
 
 pub returns : goal.returns
 unfolding unit
