@@ -5,6 +5,6 @@ use Rattle.steps.proofs.apply.row_times.Goals as goal
 
 pub returns : goal.returns
 returns g c =
-    c.add-lists.ensures
+    c.add_lists.ensures
     ∙ row_is (coded g.F.Field.arithmetic) c.args.skip _ _ _ c.args.a.now c.args.b.now c.args.x.now c.args.y.now c.product.new.out c.product-2.new.out c.requires.long c.requires.left c.requires.right
     c.product.ensures c.product-2.ensures

@@ -1,4 +1,4 @@
-use Rattle.std.proofs.Common.{◌≡◌, ℕ, ◌-◌, Bool, true, false, List, length, get_or, is_some, Some, None, unwrap_or, sym, refl, ap, ◌∙◌, ap₂, arith, w32, to_z, of_z}
+use Rattle.std.proofs.Common.{◌≡◌, ℕ, ◌-◌, true, false, List, get_or, is_some, Some, None, unwrap_or, sym, refl, ap, ◌∙◌, ap₂, arith, w32, to_z, of_z}
 use borrow.Author.Differences.{ints}
 use Rattle.field.specs.Convolution.{tabulate}
 use Rattle.field.specs.Meaning.{coded}
@@ -31,11 +31,11 @@ returns-in-Some g c =
     let zero : is_zero c.divide-delta.result ≡ true = ap is_zero (sym same) ∙ sym c.ended.ensures ∙ c.if-not-ended.false in
     let answer = answers_read A g.F.Field.recip p a g.met.F.Field.lawful g.met.F.Field.inverts c.requires.least c.requires.long_a c.requires.codes c.divide-delta.result c.divide-delta.new.f (Some c.in-Some.c) made.delta zero made.f_divided c.in-Some.ensures in
     let row : ℕ → List ℕ → List ℕ = λ n v. tabulate n (λ k. (coded A).times (get_or v (n - k) 0) c.in-Some.c) in
-    let out : c.read-off.new.out ≡ row p (divided A p a).v = c.read-off.ensures ∙ ap₂ row c.requires.long_out made.v_divided in
+    let out : c.read_off.new.out ≡ row p (divided A p a).v = c.read_off.ensures ∙ ap₂ row c.requires.long_out made.v_divided in
     record {
       found = sym (ap is_some answer);
       out_as_read_off = out ∙ sym (ap (λ o. unwrap_or o c.args.out.now) answer);
-      exactly = answers_right A g.F.Field.recip p a g.met.F.Field.lawful g.met.F.Field.inverts c.requires.least c.requires.long_a c.requires.codes _ true c.read-off.new.out c.args.out.now answer refl out;
+      exactly = answers_right A g.F.Field.recip p a g.met.F.Field.lawful g.met.F.Field.inverts c.requires.least c.requires.long_a c.requires.codes _ true c.read_off.new.out c.args.out.now answer refl out;
     }
 
 pub returns-in-None : goal.returns-in-None
@@ -53,5 +53,5 @@ returns-in-None g c =
       exactly = answers_right A g.F.Field.recip c.args.p a g.met.F.Field.lawful g.met.F.Field.inverts c.requires.least c.requires.long_a c.requires.codes None false out out answer refl refl;
     }
 
-pub read-off-requires : goal.read-off-requires
-read-off-requires g c = omega arith
+pub read_off-requires : goal.read_off-requires
+read_off-requires g c = omega arith

@@ -1,4 +1,4 @@
-use Rattle.std.proofs.Common.{◌≡◌, ℕ, ◌-◌, ◌<◌, length, get_or}
+use Rattle.std.proofs.Common.{◌≡◌, ℕ, ◌-◌, ◌<◌, get_or}
 use Rattle.field.specs.Meaning.{coded}
 use Rattle.steps.proofs.inversion.read_off.Given as goal
 

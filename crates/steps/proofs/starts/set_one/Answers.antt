@@ -1,4 +1,4 @@
-use Rattle.std.proofs.Common.{◌≡◌, length, set, refl, ap, ◌∙◌}
+use Rattle.std.proofs.Common.{length, set, refl, ap, ◌∙◌}
 use Rattle.field.specs.Meaning.{coded}
 use Rattle.divstep.proofs.Beginnings.{one_is}
 use Rattle.steps.proofs.starts.set_one.Goals as goal

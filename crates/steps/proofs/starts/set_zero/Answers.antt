@@ -1,4 +1,4 @@
-use Rattle.std.proofs.Common.{◌≡◌, length, refl, ◌∙◌}
+use Rattle.std.proofs.Common.{length, refl, ◌∙◌}
 use Rattle.field.specs.Meaning.{coded}
 use Rattle.divstep.proofs.Beginnings.{zero_is}
 use Rattle.steps.proofs.starts.set_zero.Goals as goal

@@ -1,4 +1,4 @@
-use Rattle.std.proofs.Common.{◌≡◌, ℕ, ◌≤◌, length, ℤ, nat_abs, sym, ap, ◌∙◌, arith}
+use Rattle.std.proofs.Common.{◌≤◌, ℤ, nat_abs, sym, ap, ◌∙◌, arith}
 use Rattle.field.specs.Meaning.{coded}
 use Rattle.field.proofs.Codes.{coded_ring}
 use Rattle.ring.specs.Polynomials.{unit_at}
@@ -19,7 +19,7 @@ returns g c =
     ∙ c.run.ensures.state
     ∙ run_is (coded_ring laws) not_zero c.args.n δ c.args.f.now c.args.g.now
     (tested_pair laws c.args.f.now c.args.g.now (sym c.requires.long) c.requires.codes_f c.requires.codes_g) _ _ _ _ _ same
-    (resized (unit_at O) c.set-one.ensures c.requires.long_u)
-    (resized (λ _. O.zero) c.set-zero.ensures c.requires.long_v)
-    (resized (λ _. O.zero) c.set-zero-2.ensures c.requires.long_q)
-    (resized (unit_at O) c.set-one-2.ensures c.requires.long_r)
+    (resized (unit_at O) c.set_one.ensures c.requires.long_u)
+    (resized (λ _. O.zero) c.set_zero.ensures c.requires.long_v)
+    (resized (λ _. O.zero) c.set_zero-2.ensures c.requires.long_q)
+    (resized (unit_at O) c.set_one-2.ensures c.requires.long_r)
