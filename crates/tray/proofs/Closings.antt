@@ -1,12 +1,12 @@
 -- What the loops of a close keep: products, codes and inverses of the first denominators.
 -- Main results: `product_one`, `product_more`; `coded_more`, `denominator_coded`; `first_at`, `first_none`; `products_more`, `behind`.
-use Rattle.std.proofs.Common.{◌≡◌, ℕ, zero, suc, ◌+◌, ◌*◌, ◌<◌, ◌≤◌, Bool, true, false, ◌&&◌, List, ◌++◌, length, take, drop, is_some, Some, None, Option, sym, refl, ap, ◌∙◌, ap₂, inl, inr, add-mul, mul-add, mul_right_comm, add-one, arith}
+use Rattle.std.proofs.Common.{◌≡◌, ℕ, zero, suc, ◌+◌, ◌*◌, ◌<◌, ◌≤◌, true, false, ◌&&◌, List, ◌++◌, length, take, drop, is_some, Some, None, Option, sym, refl, ap, ◌∙◌, ap₂, inl, inr, add-mul, mul-add, mul_right_comm, add-one, arith}
 use borrow.Author.Tests.{clash}
 use Rattle.std.proofs.lemmas.List.{append_assoc, drop_at, drop-drop, length-append, length-drop, length-take, length-take-le}
 use Rattle.std.proofs.lemmas.Bool.{and_parts, cases_lt}
 use Rattle.field.specs.Meaning.{all_codes}
 use Rattle.ring.proofs.Units.{one_times_normal}
-use Rattle.traylaw.specs.Calculus.{Calculus, Polynomial, Lawful, one, times}
+use Rattle.traylaw.specs.Calculus.{Calculus, Polynomial, Lawful, times}
 use Rattle.traylaw.specs.Sheets.{written, shelf, shelved, denominator_at}
 use Rattle.tray.specs.Inverses.{Found}
 use Rattle.traylaw.specs.Effects.{product, coded_denominators, earlier, unless_found, first_uninvertible, with_products}

@@ -1,10 +1,10 @@
 -- The entry before the last one: its product shelf, which counts as 1 where there is no such entry.
 -- Main results: `coded_first`, `coded_later`; `inverse_first`, `inverse_later`; `put_first`, `put_later`; `last_product_coded` and its like.
-use Rattle.std.proofs.Common.{◌≡◌, ℕ, zero, suc, ◌+◌, ◌-◌, ◌*◌, ◌<◌, ◌≤◌, true, List, sym, refl, ap, ◌∙◌, arith}
+use Rattle.std.proofs.Common.{◌≡◌, ℕ, zero, suc, ◌+◌, ◌-◌, ◌*◌, ◌≤◌, true, List, ap, ◌∙◌, arith}
 use Rattle.std.proofs.lemmas.Bool.{and_parts}
 use Rattle.field.specs.Meaning.{all_codes}
 use Rattle.ring.proofs.Units.{one_times_normal}
-use Rattle.traylaw.specs.Calculus.{Calculus, Polynomial, Lawful, one, times}
+use Rattle.traylaw.specs.Calculus.{Calculus, Polynomial, Lawful, times}
 use Rattle.traylaw.specs.Sheets.{shelved, numerator_at, denominator_at, product_at}
 use Rattle.traylaw.specs.Effects.{product_before, coded_before, put_before, coded_last, last_inverse}
 

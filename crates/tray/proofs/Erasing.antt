@@ -1,10 +1,14 @@
--- Products that were written to shelves that held zeros are erased by zeros, the last first.
--- Main results: `zeros_are`, `kept`, `erased_one`.
-use Rattle.std.proofs.Common.{◌≡◌, ℕ, zero, suc, ◌+◌, ◌*◌, ◌<◌, ◌≤◌, List, [], ◌∷◌, ◌++◌, length, get_or, take, drop, replicate, sym, refl, ap, ◌∙◌, ap₂, add-mul, add-one, arith}
+-- Products that were written to shelves that held zeros are erased by zeros, the last first; and what is put over the last one of them.
+-- Main results: `zeros_are`, `kept`, `erased_one`, `closed_as_defined`.
+use Rattle.std.proofs.Common.{Option, Some, None, is_some, unwrap_or, true, ◌≡◌, ℕ, zero, suc, ◌+◌, ◌-◌, ◌*◌, ◌<◌, ◌≤◌, List, [], ◌∷◌, ◌++◌, length, get_or, take, drop, replicate, sym, refl, ap, ◌∙◌, ap₂, add-mul, add-one, arith}
+use Rattle.std.proofs.lemmas.Bool.{false≢true}
 use Rattle.std.proofs.lemmas.List.{take_at, drop-drop, length-drop, length-take-le, length-replicate, take-append-drop}
 use Rattle.traylaw.specs.Calculus.{Calculus, Lawful}
 use Rattle.traylaw.specs.Sheets.{written, room, shelf, shelved, product_at}
-use Rattle.traylaw.specs.Effects.{product, with_products}
+use Rattle.refusal.specs.declared.Refusal.TheVariants.{NoInverse}
+use Rattle.refusal.specs.Questions.{asked}
+use Rattle.divstep.specs.ReadOff.{inversion_steps}
+use Rattle.traylaw.specs.Effects.{granted, product, first_uninvertible, with_products, inverse_asked, close_sheet}
 use Rattle.tray.proofs.Places.{shelf_within, entry_within}
 use Rattle.tray.proofs.Closings.{past, next_entry, behind, shelved_length, product_long, products_none, products_more}
 
@@ -65,3 +69,37 @@ module _ {K : Calculus} (L : Lawful K) (capacity : ℕ) (sheet : List ℕ) (long
       ap (written ((3 * i + 2) * p) (replicate p 0)) (products_more K sheet i)
       ∙ overwritten ((3 * i + 2) * p) poly (replicate p 0) (with_products K i sheet) (l ∙ sym lz) (omega arith)
       ∙ rewritten p ((3 * i + 2) * p) (replicate p 0) (with_products K i sheet) fits (product_behind p i (with_products K i sheet) sheet before.1 ∙ z)
+
+  -- a list over the last product that was put on its shelf: that product need not have been put there
+  over_last : (i : ℕ) → i < capacity → (b : List ℕ) → length b ≡ K.degree →
+      shelved K.degree (3 * i + 2) b (with_products K (i + 1) sheet) ≡ shelved K.degree (3 * i + 2) b (with_products K i sheet)
+  unfolding shelved
+  over_last i h b lb =
+      let p = K.degree in
+      let before = kept i (omega arith) in
+      let poly = product K (i + 1) sheet in
+      let l : length poly ≡ p = product_long K sheet L i in
+      let fits : (3 * i + 2) * p + p ≤ length (with_products K i sheet) = omega (arith, before.0, shelf_within p capacity (3 * i + 2) (omega arith)) in
+      ap (written ((3 * i + 2) * p) b) (products_more K sheet i) ∙ overwritten ((3 * i + 2) * p) poly b (with_products K i sheet) (l ∙ sym lb) (omega arith)
+
+  -- where there is an inverse, it matters not what stands for one else
+  whichever : (o : Option (List ℕ)) (d : List ℕ) → is_some o ≡ true → unwrap_or o d ≡ unwrap_or o []
+  whichever (Some b) d h = refl
+  whichever None d h = absurd (false≢true h)
+
+  -- the products of all entries but the last, and on the last product shelf the inverse of the product of all, are what a close leaves
+  pub closed_as_defined : (n : ℕ) → 1 ≤ n → n ≤ capacity → (whole inverse d was now : List ℕ) → length inverse ≡ K.degree →
+      whole ≡ product K n sheet → is_some (K.inverse whole) ≡ true → inverse ≡ unwrap_or (K.inverse whole) d →
+      was ≡ with_products K (n - 1) sheet → now ≡ shelved K.degree (3 * (n - 1) + 2) inverse was →
+      now ≡ granted (inverse_asked K n sheet) (close_sheet K n sheet) sheet
+  closed_as_defined zero some within whole inverse d was now l same found is w e = absurd (omega arith)
+  closed_as_defined (suc m) some within whole inverse d was now l same found is w e =
+      let p = K.degree in
+      let before : suc m - 1 ≡ m = omega arith in
+      let next : suc m ≡ m + 1 = omega arith in
+      let low : m < capacity = omega arith in
+      let there : is_some (K.inverse (product K (suc m) sheet)) ≡ true = ap (λ a. is_some (K.inverse a)) (sym same) ∙ found in
+      e ∙ ap₂ (λ i s. shelved p (3 * i + 2) inverse s) before (w ∙ ap (λ i. with_products K i sheet) before)
+      ∙ sym (over_last m low inverse l)
+      ∙ ap₂ (λ (b : List ℕ) s. shelved p (3 * m + 2) b s) (is ∙ ap (λ a. unwrap_or (K.inverse a) d) same ∙ whichever _ d there) (ap (λ i. with_products K i sheet) (sym next))
+      ∙ ap (λ t. granted (asked (NoInverse (first_uninvertible K (suc m) sheet) (inversion_steps p * (first_uninvertible K (suc m) sheet + 1))) t) (close_sheet K (suc m) sheet) sheet) (sym there)

@@ -1,6 +1,6 @@
 -- Places on a sheet: which shelves it reaches, and writes side by side.
 -- Main results: `shelf_within`, `entry_within`; `beside`, `cleared`.
-use Rattle.std.proofs.Common.{◌≡◌, ℕ, suc, ◌+◌, ◌*◌, ◌<◌, ◌≤◌, min, List, ◌++◌, length, take, drop, replicate, sym, ap, ◌∙◌, ap₂, inl, inr, mul_assoc, mul_comm, mul-le-mul_left, mul-suc, mul_right_comm, arith}
+use Rattle.std.proofs.Common.{◌≡◌, ℕ, ◌+◌, ◌*◌, ◌<◌, ◌≤◌, min, List, ◌++◌, length, take, drop, replicate, sym, ap, ◌∙◌, ap₂, inl, inr, mul_assoc, mul_comm, mul-le-mul_left, mul-suc, mul_right_comm, arith}
 use Rattle.std.proofs.lemmas.List.{take_at, drop_at, drop-drop, drop_all, append_assoc, length-append, length-take-le, length-replicate}
 use Rattle.std.proofs.lemmas.Bool.{cases_lt}
 use Rattle.traylaw.specs.Sheets.{written, room, clear_sheet}

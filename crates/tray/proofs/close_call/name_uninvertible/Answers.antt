@@ -6,8 +6,8 @@ use Rattle.tray.proofs.Closings.{denominator_coded, first_none, first_at}
 use Rattle.tray.proofs.close_call.name_uninvertible.Goals as goal
 use Rattle.tray.proofs.close_call.name_uninvertible.Goals.{in-Some, in-None}
 
-pub first-uninvertible-requires : goal.first-uninvertible-requires
-first-uninvertible-requires g c =
+pub first_uninvertible-requires : goal.first_uninvertible-requires
+first_uninvertible-requires g c =
     let K : Calculus = calculus g.F.Field.arithmetic g.F.Field.recip c.args.p in
     record {
       least = omega arith;
@@ -24,8 +24,8 @@ returns g c =
     let K : Calculus = calculus g.F.Field.arithmetic g.F.Field.recip c.args.p in
     let sheet = c.args.sheet.now in
     let n = c.args.count in
-    let first : c.match-first-uninvertible.named ≡ first_uninvertible K n sheet = elim c.match-first-uninvertible.branch [
+    let first : c.match-first_uninvertible.named ≡ first_uninvertible K n sheet = elim c.match-first_uninvertible.branch [
       | in-Some w ↦ let e = w.in-Some.ensures in w.named-is ∙ sym (first_at K sheet n w.in-Some.i e.0 e.1 e.2)
       | in-None w ↦ w.named-is ∙ sym (first_none K sheet n w.in-None.ensures)
     ] in
-    ap₂ (λ s j. NoInverse j (s * (j + 1))) c.inversion-steps.ensures first
+    ap₂ (λ s j. NoInverse j (s * (j + 1))) c.inversion_steps.ensures first

@@ -1,4 +1,4 @@
-use Rattle.std.proofs.Common.{◌≡◌, ◌&&◌, sym, ap, ◌∙◌, ap₂}
+use Rattle.std.proofs.Common.{◌&&◌, sym, ap, ◌∙◌, ap₂}
 use Rattle.field.specs.Meaning.{all_codes}
 use Rattle.traylaw.specs.Calculus.{calculus}
 use Rattle.tray.proofs.Closings.{coded_none, coded_more}
@@ -9,5 +9,5 @@ loop-i-init g c = sym (coded_none (calculus g.F.Field.arithmetic g.F.Field.recip
 
 pub loop-i-preserved : goal.loop-i-preserved
 loop-i-preserved g c =
-    ap₂ ◌&&◌ c.loop-i.invariant (c.all-codes-all.ensures ∙ ap (all_codes g.F.Field.arithmetic.size) c.shelf.ensures.on_shelf)
+    ap₂ ◌&&◌ c.loop-i.invariant (c.all_codes-all.ensures ∙ ap (all_codes g.F.Field.arithmetic.size) c.shelf.ensures.on_shelf)
     ∙ sym (coded_more (calculus g.F.Field.arithmetic g.F.Field.recip c.args.p) c.args.sheet.now c.loop-i.i)

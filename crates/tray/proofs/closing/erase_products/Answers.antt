@@ -1,4 +1,4 @@
-use Rattle.std.proofs.Common.{◌≡◌, ℕ, ◌+◌, ◌-◌, ◌*◌, ◌<◌, List, replicate, ap, ◌∙◌, arith}
+use Rattle.std.proofs.Common.{◌≡◌, ℕ, ◌+◌, ◌-◌, ◌*◌, replicate, ap, ◌∙◌, arith}
 use Rattle.traylaw.specs.Calculus.{Calculus, calculus}
 use Rattle.traylaw.specs.Sheets.{shelved}
 use Rattle.traylaw.specs.Effects.{with_products}
@@ -17,7 +17,7 @@ loop-done-preserved g c = λ before long blank is.
     let i : ℕ = c.args.n - 1 - c.loop-done.done in
     let left : c.args.n - c.loop-done.done ≡ i + 1 = omega arith in
     let next : i ≡ c.args.n - (c.loop-done.done + 1) = omega arith in
-    c.zero-shelf.ensures
+    c.zero_shelf.ensures
     ∙ ap (shelved p (3 * i + 2) (replicate p 0)) (c.loop-done.invariant before long blank is ∙ ap (λ m. with_products K m before) left)
     ∙ erased_one L c.args.capacity before long i (omega arith) (blank i (omega arith)) ∙ ap (λ m. with_products K m before) next
 

@@ -9,5 +9,5 @@ returns-then-i-eq0 g c = sym (coded_first (calculus g.F.Field.arithmetic g.F.Fie
 
 pub returns : goal.returns
 returns g c =
-    c.all-codes.ensures ∙ ap (all_codes g.F.Field.arithmetic.size) c.shelf.ensures.on_shelf
+    c.all_codes.ensures ∙ ap (all_codes g.F.Field.arithmetic.size) c.shelf.ensures.on_shelf
     ∙ sym (coded_later (calculus g.F.Field.arithmetic g.F.Field.recip c.args.p) c.args.sheet.now c.args.i (omega arith))

@@ -1,4 +1,4 @@
-use Rattle.std.proofs.Common.{◌≡◌, ◌-◌, ◌≤◌, true, length, sym, ap, ◌∙◌, arith, rules}
+use Rattle.std.proofs.Common.{◌≡◌, ◌≤◌, true, length, sym, ap, ◌∙◌, arith}
 use Rattle.field.specs.Meaning.{all_codes}
 use Rattle.traylaw.specs.Calculus.{Calculus, calculus}
 use Rattle.traylaw.specs.Sheets.{product_at}
@@ -6,8 +6,8 @@ use Rattle.traylaw.proofs.Lawful.{lawful}
 use Rattle.tray.proofs.Drawings.{coded_later, inverse_first, inverse_later, last_product_coded, before_coded}
 use Rattle.tray.proofs.drawing.invert_last.Goals as goal
 
-pub times-before-requires : goal.times-before-requires
-times-before-requires g c =
+pub times_before-requires : goal.times_before-requires
+times_before-requires g c =
     let K : Calculus = calculus g.F.Field.arithmetic g.F.Field.recip c.args.p in
     let sheet = c.args.sheet.now in
     let later : 1 ≤ c.args.i = omega arith in
@@ -33,7 +33,7 @@ returns-then-i-eq0 g c =
     let zero : c.args.i ≡ 0 = omega arith in
     let codes : all_codes A.size (product_at p 0 sheet) ≡ true = ap (λ n. all_codes A.size (product_at p n sheet)) (sym zero) ∙ last_product_coded K sheet c.args.i c.requires.codes in
     let long : length (product_at p 0 sheet) ≡ p = sym (ap length c.shelf.ensures.on_shelf) ∙ c.shelf.ensures.len in
-    let is : c.copy-from-slice.new.self ≡ product_at p 0 sheet = c.copy-from-slice.ensures.after ∙ c.shelf.ensures.on_shelf in
+    let is : c.copy_from_slice.new.self ≡ product_at p 0 sheet = c.copy_from_slice.ensures.after ∙ c.shelf.ensures.on_shelf in
     let L = lawful A g.met.F.Field.lawful recip g.met.F.Field.inverts p c.requires.least in
     record {
       inverted = is ∙ sym (inverse_first K sheet c.args.i L (record { long = long; codes = codes }) zero);
@@ -44,6 +44,6 @@ pub returns-else-i-eq0 : goal.returns-else-i-eq0
 returns-else-i-eq0 g c =
     let K : Calculus = calculus g.F.Field.arithmetic g.F.Field.recip c.args.p in
     record {
-      inverted = c.times-before.ensures.multiplied ∙ sym (inverse_later K c.args.sheet.now c.args.i (omega arith));
-      codes = c.times-before.ensures.codes;
+      inverted = c.times_before.ensures.multiplied ∙ sym (inverse_later K c.args.sheet.now c.args.i (omega arith));
+      codes = c.times_before.ensures.codes;
     }

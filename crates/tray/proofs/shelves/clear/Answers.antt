@@ -3,4 +3,4 @@ use Rattle.tray.proofs.Places.{cleared}
 use Rattle.tray.proofs.shelves.clear.Goals as goal
 
 pub returns : goal.returns
-returns c = c.zero-at.ensures ∙ cleared c.args.p c.args.capacity c.min-reached.result c.args.sheet.now c.min-reached.ensures
+returns c = c.zero_at.ensures ∙ cleared c.args.p c.args.capacity c.min-reached.result c.args.sheet.now c.min-reached.ensures

@@ -1,17 +1,17 @@
-use Rattle.std.proofs.Common.{◌≡◌, ℕ, ◌+◌, ◌*◌, List, ◌++◌, length, replicate, ap, ◌∙◌, arith}
+use Rattle.std.proofs.Common.{ℕ, ◌+◌, ◌*◌, List, ◌++◌, replicate, ap, ◌∙◌, arith}
 use Rattle.std.proofs.lemmas.List.{append_assoc, length-append}
 use Rattle.traylaw.specs.Sheets.{written}
 use Rattle.tray.proofs.Places.{entry_within, beside}
 use Rattle.tray.proofs.shelves.put_entry.Goals as goal
 
-pub write-at-requires : goal.write-at-requires
-write-at-requires c = omega (arith, entry_within c.args.p c.args.capacity c.args.i c.requires.within)
+pub write_at-requires : goal.write_at-requires
+write_at-requires c = omega (arith, entry_within c.args.p c.args.capacity c.args.i c.requires.within)
 
-pub write-at-requires-2 : goal.write-at-requires-2
-write-at-requires-2 c = omega (arith, entry_within c.args.p c.args.capacity c.args.i c.requires.within)
+pub write_at-requires-2 : goal.write_at-requires-2
+write_at-requires-2 c = omega (arith, entry_within c.args.p c.args.capacity c.args.i c.requires.within)
 
-pub zero-at-requires : goal.zero-at-requires
-zero-at-requires c = omega (arith, entry_within c.args.p c.args.capacity c.args.i c.requires.within)
+pub zero_at-requires : goal.zero_at-requires
+zero_at-requires c = omega (arith, entry_within c.args.p c.args.capacity c.args.i c.requires.within)
 
 pub returns : goal.returns
 returns c =
@@ -22,7 +22,7 @@ returns c =
     let s = c.args.sheet.now in
     let within = entry_within p c.args.capacity c.args.i c.requires.within in
     let long = length-append n d in
-    c.zero-at.ensures
-    ∙ ap (written (at + p + p) (replicate p 0)) (c.write-at-2.ensures ∙ ap (written (at + p) d) c.write-at.ensures ∙ beside at (at + p) n d s (omega arith) (omega arith))
+    c.zero_at.ensures
+    ∙ ap (written (at + p + p) (replicate p 0)) (c.write_at-2.ensures ∙ ap (written (at + p) d) c.write_at.ensures ∙ beside at (at + p) n d s (omega arith) (omega arith))
     ∙ beside at (at + p + p) (n ++ d) (replicate p 0) s (omega arith) (omega arith)
     ∙ ap (λ (t : List ℕ). written at t s) (append_assoc n d (replicate p 0))

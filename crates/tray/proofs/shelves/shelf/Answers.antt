@@ -4,8 +4,8 @@ use Rattle.traylaw.specs.Sheets.{shelf}
 use Rattle.tray.proofs.Places.{shelf_within}
 use Rattle.tray.proofs.shelves.shelf.Goals as goal
 
-pub slice-bounds-result-end : goal.slice-bounds-result-end
-slice-bounds-result-end c = omega (arith, shelf_within c.args.p c.args.capacity c.args.k c.requires.within)
+pub slice_bounds-result-end : goal.slice_bounds-result-end
+slice_bounds-result-end c = omega (arith, shelf_within c.args.p c.args.capacity c.args.k c.requires.within)
 
 pub returns : goal.returns
 unfolding shelf
