@@ -9,7 +9,6 @@ use Rattle.traylaw.specs.Calculus.{Calculus, calculus, Lawful}
 use Rattle.traylaw.specs.Sheets.{room, clear_sheet}
 use Rattle.traylaw.specs.Effects.{Phase.Burnt, open_asked, after_open, after_burn}
 use Rattle.traylaw.specs.Runs.{Event, Tray, Opened, laid, Step, Run, Run.opened, Run.then}
-use Rattle.traylaw.specs.Law.{Moment}
 use Rattle.traylaw.proofs.Law.{law}
 use Rattle.traylaw.proofs.Questions.{yes, each_yes}
 use Rattle.script.specs.declared.scripts.Call.{Call}

@@ -1,13 +1,13 @@
 -- A call of a script that is made is a step of the law.
 -- Main results: `turned`, `drawn_out`.
-use Rattle.std.proofs.Common.{◌≡◌, ℕ, ◌≤◌, cond, List, [], ◌++◌, length, take, drop, is_ok, Some, None, Ok, Err, Option, Result, unwrap_or, sym, refl, ap, ◌∙◌, ap₂, inl, append-nil, arith}
+use Rattle.std.proofs.Common.{◌≡◌, ℕ, cond, List, ◌++◌, length, take, drop, is_ok, Some, None, Ok, Err, Option, Result, unwrap_or, sym, refl, ap, ◌∙◌, inl, append-nil, arith}
 use Rattle.std.proofs.lemmas.List.{take_all, drop_all, length-take}
 use Rattle.std.specs.Result.{result_err}
 use Rattle.refusal.specs.declared.Refusal.{Refusal}
 use Rattle.traylaw.specs.Calculus.{Calculus}
 use Rattle.traylaw.specs.Sheets.{room}
 use Rattle.traylaw.specs.Effects.{Phase, granted}
-use Rattle.traylaw.specs.Runs.{Call as TrayCall, Tray, Allowed, effect, laid, Step}
+use Rattle.traylaw.specs.Runs.{Call as TrayCall, Tray, Allowed, effect, laid}
 use Rattle.script.specs.declared.scripts.Outcome.{Outcome}
 use Rattle.script.specs.declared.scripts.Outcome.TheVariants.{NotAllowed, Refused, Closed as ClosedIn}
 use Rattle.script.specs.Events.{refusal_in, steps_in, quotient_in, output_of, Turn}

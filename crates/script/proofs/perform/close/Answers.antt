@@ -1,4 +1,4 @@
-use Rattle.std.proofs.Common.{◌≡◌, ℕ, List, [], length, take, unwrap_or, sym, refl, ap, ◌∙◌, ap₂, arith}
+use Rattle.std.proofs.Common.{ℕ, List, length, take, refl, ap, ap₂}
 use Rattle.divstep.specs.ReadOff.{inversion_steps}
 use Rattle.traylaw.specs.Calculus.{Calculus, calculus}
 use Rattle.traylaw.specs.Sheets.{room}

@@ -1,4 +1,4 @@
-use Rattle.std.proofs.Common.{◌≡◌, ℕ, List, [], length, take, vec_items, unwrap_or, sym, refl, ap, ◌∙◌, ap₂}
+use Rattle.std.proofs.Common.{◌≡◌, ℕ, List, length, take, vec_items, unwrap_or, refl, ap, ◌∙◌, ap₂}
 use Rattle.traylaw.specs.Calculus.{Calculus, calculus}
 use Rattle.traylaw.specs.Sheets.{room}
 use Rattle.traylaw.specs.Effects.{Phase.Closed as IsClosed, After, after_draw}
@@ -16,9 +16,9 @@ returns g c =
     let left : List ℕ = c.draw-result.new.sheet in
     let given : List ℕ = vec_items c.args.quotient in
     let does : List ℕ → After = λ out. after_draw K c.args.tray.capacity c.args.tray.count c.args.sheet.now out (length c.args.scratch.now) in
-    let same : does c.as-mut-slice.result.now ≡ does given = ap does c.as-mut-slice.ensures.value in
+    let same : does c.as_mut_slice.result.now ≡ does given = ap does c.as_mut_slice.ensures.value in
     let refusal : result_err c.draw-result.result ≡ (does given).refusal = did.refused_as_asked ∙ ap (λ (a : After). a.refusal) same in
-    let long : length c.draw-result.new.out ≡ c.args.quotient.len = c.draw-result.auto.out ∙ c.as-mut-slice.ensures.len in
+    let long : length c.draw-result.new.out ≡ c.args.quotient.len = c.draw-result.auto.out ∙ c.as_mut_slice.ensures.len in
     let out = with_items_is c.args.quotient c.draw-result.new.out long ∙ did.out_is_quotient ∙ ap (λ (a : After). a.out) same in
     record {
       turn =

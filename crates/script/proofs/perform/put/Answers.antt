@@ -1,7 +1,7 @@
-use Rattle.std.proofs.Common.{◌≡◌, ℕ, List, [], length, take, unwrap_or, sym, refl, ap, ◌∙◌, ap₂}
+use Rattle.std.proofs.Common.{ℕ, List, [], take, unwrap_or, refl, ap, ◌∙◌, ap₂}
 use Rattle.traylaw.specs.Calculus.{Calculus, calculus}
 use Rattle.traylaw.specs.Sheets.{room}
-use Rattle.traylaw.specs.Effects.{Phase.Open as IsOpen, Phase.Closed as IsClosed, granted}
+use Rattle.traylaw.specs.Effects.{Phase.Open as IsOpen}
 use Rattle.script.specs.Events.{a_put}
 use Rattle.script.proofs.Turns.{turned}
 use Rattle.script.proofs.perform.put.Goals as goal
@@ -9,13 +9,13 @@ use Rattle.script.proofs.perform.put.Goals as goal
 pub returns : goal.returns
 returns g c =
     let K : Calculus = calculus g.F.Field.arithmetic g.F.Field.recip c.args.tray.p in
-    let o = c.outcome-of-outcome.ensures in
+    let o = c.outcome_of-outcome.ensures in
     let did = c.put.ensures in
     let left : List ℕ = c.put.new.sheet in
     record {
       turn =
           turned K c.args.tray.capacity IsOpen c.args.tray.count c.args.sheet.now (a_put c.args.numerator.now c.args.denominator.now) _ left
-          c.outcome-of-outcome.result refl o.allowed (o.refusal ∙ did.refused_as_asked) o.steps (ap (λ q. unwrap_or q []) o.quotient) refl did.entry_counted
+          c.outcome_of-outcome.result refl o.allowed (o.refusal ∙ did.refused_as_asked) o.steps (ap (λ q. unwrap_or q []) o.quotient) refl did.entry_counted
           (ap₂ (λ p q. take (room p q) left) did.degree_stays did.capacity_stays) did.sheet_holds_entry c.put.auto.sheet;
       degree = did.degree_stays;
       capacity = did.capacity_stays;

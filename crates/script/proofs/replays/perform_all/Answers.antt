@@ -1,10 +1,6 @@
-use Rattle.std.proofs.Common.{◌≡◌, ◌<◌, List, [], ◌∷◌, ◌++◌, reverse, length, take, vec_items, sym, refl, ap, ◌∙◌, subst, arith}
-use Rattle.std.proofs.lemmas.List.{take_more, take_all}
-use Rattle.traylaw.specs.Calculus.{calculus}
+use Rattle.std.proofs.Common.{◌<◌, List, [], ◌∷◌, ◌++◌, length, take, vec_items, sym, refl, ap, ◌∙◌, arith}
+use Rattle.std.proofs.lemmas.List.{take_more}
 use Rattle.script.specs.declared.scripts.Call.{Call}
-use Rattle.script.specs.declared.scripts.Answer.{Answer}
-use Rattle.script.specs.Events.{tray_of}
-use Rattle.script.specs.Replays.{Replays, Replays.none, Performed}
 use Rattle.script.proofs.Performances.{at_ok, started, ended, again}
 use Rattle.script.proofs.replays.perform_all.Goals as goal
 
@@ -19,7 +15,7 @@ loop-call-preserved g c =
     let i = c.loop-call.call-index in
     let within : i < length script = omega arith in
     let cut = take_more script i c.call-item.result within ∙ ap (λ (x : Call). take i script ++ x ∷ []) (sym c.call-item.is) in
-    let noted = at_ok _ c.in-default.field-0 _ c.in-default.is did.noted in (
+    let noted = at_ok _ c.in_default.field-0 _ c.in_default.is did.noted in (
       again g.F.Field.arithmetic g.F.Field.recip c.args.tray.p c.args.tray.capacity (length c.args.sheet.now) script i c.call-item.result
           (vec_items c.loop-call.answers) (vec_items c.step-next.new.answers) c.loop-call.state c.step-next.result.0 c.loop-call.sheet c.step-next.new.sheet cut
           inv.1 inv.2 c.loop-call.auto.sheet did.degree did.capacity inv.0 noted,

@@ -1,6 +1,3 @@
-use Rattle.std.proofs.Common.{◌≡◌, [], ◌∷◌, ◌++◌, length, vec_items}
-use Rattle.traylaw.specs.Calculus.{calculus}
-use Rattle.script.specs.Events.{call_of, tray_of, degree_of, capacity_of, Turn}
 use Rattle.script.proofs.Performances.{at_ok, made_so}
 use Rattle.script.proofs.replays.step.Goals as goal
 
