@@ -118,7 +118,7 @@ fn read_field(word: &[u8]) -> Result<FieldName, Unread>
 /// Reads the words of a put: a numerator, a slash and a denominator.
 fn read_put(heap: Global, words: &[&[u8]]) -> Result<Call, Unread> {
     for (i, word) in words.iter().enumerate() {
-        if *word == b"/" {
+        if *word == b"/".as_slice() {
             return Ok(Call::Put {
                 numerator: read_list(heap, &words[0..i])?,
                 denominator: read_list(heap, &words[i + 1..])?,

@@ -6,13 +6,13 @@ use Rattle.std.proofs.lemmas.Str.{IsUtf8-from_ascii}
 use Rattle.replay.proofs.numbers.read_number.Goals as goal
 
 -- a numeral begins with a digit
-pub returns-then-has-plus : goal.returns-then-has-plus
-returns-then-has-plus c numeral =
+pub returns-then-has_plus : goal.returns-then-has_plus
+returns-then-has_plus c numeral =
     let word = c.args.word.now in
-    absurd (omega (arith, digit_at word 0 numeral.1 numeral.0, eqb-true _ _ (sym c.if-has-plus.ensures)))
+    absurd (omega (arith, digit_at word 0 numeral.1 numeral.0, eqb-true _ _ (sym c.if-has_plus.ensures)))
 
 -- and is ASCII
-pub returns-in-default : goal.returns-in-default
-returns-in-default c numeral =
+pub returns-in_default : goal.returns-in_default
+returns-in_default c numeral =
     let word = c.args.word.now in
-    absurd (c.in-default.ensures.cases.0 (IsUtf8-from_ascii word (IsAscii-from_reads word (length word) (omega arith) (λ k h. omega (arith, digit_at word k numeral.1 h)))))
+    absurd (c.in_default.ensures.cases.0 (IsUtf8-from_ascii word (IsAscii-from_reads word (length word) (omega arith) (λ k h. omega (arith, digit_at word k numeral.1 h)))))
