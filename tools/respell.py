@@ -30,6 +30,7 @@ def is_fact_or_type(name):
 def snake(name):
     name = name.replace("-", "_")
     name = re.sub(r"([a-z0-9])([A-Z])", r"\1_\2", name)
+    name = re.sub(r"([A-Z])([A-Z][a-z])", r"\1_\2", name)
     return name.lower()
 
 

@@ -159,11 +159,11 @@ module _ {C : Type 0} {O : Operations C} (R : CommutativeRing O) (p : ℕ) (big 
         product O p (tabulate p (λ k. s.v (p - k))) a ≡ scaled O p (s.f 0) (unit O p)
     unfolding KeptAt γ e
     found s k constant first low =
-        let steps-made : suc (p - 1 + (p - 1)) ≡ p + p - 1 = omega arith in
+        let steps_made : suc (p - 1 + (p - 1)) ≡ p + p - 1 = omega arith in
         let w : ℕ → C = λ i. s.v (suc i) in
         ap (λ l. product O p l a) (tabulate_ext p _ _ (λ i l. ap s.v (omega arith))) ∙ reversed_product w
         ∙ constant_reversed L x_linear over_linear commute back (p - 1) e _ (reverse a) (tabulate p w) (s.f 0) (reverse_long ∙ top) (length_tabulate p w ∙ top) (evaluated_constant L over_linear _ s.f e constant)
-        (ap (λ n. power over n (evaluated (space O p) over (suc (p + p - 1)) s.f e)) steps-made ∙ k.of_f ∙ evaluated_down L over_linear _ s.v _ first
+        (ap (λ n. power over n (evaluated (space O p) over (suc (p + p - 1)) s.f e)) steps_made ∙ k.of_f ∙ evaluated_down L over_linear _ s.v _ first
         ∙ ap over (evaluated_rest L over_linear p _ w _ (omega arith) (λ i l. low (suc i) (omega arith))))
 
     -- where g ends as zero

@@ -84,8 +84,8 @@ ring_asked p g f h e =
     let yes = three_yes (leb 2 p && leb p 1277) _ _ e in
     let long = and_parts _ _ yes.1 in
     let codes = and_parts _ _ yes.2 in
-    let f-long : length (tripled f) ≡ p = length-map f triple ∙ eqb-true _ _ (and_parts _ _ long.0).1 in
-    let lengths = and_from _ _ (and_from _ _ long.1 (eq-eqb _ _ f-long)) (eq-eqb p p refl) in
+    let f_long : length (tripled f) ≡ p = length-map f triple ∙ eqb-true _ _ (and_parts _ _ long.0).1 in
+    let lengths = and_from _ _ (and_from _ _ long.1 (eq-eqb _ _ f_long)) (eq-eqb p p refl) in
     let both = and_from _ _ codes.1 (tripled_codes f) in
     ap₂ (λ b c. first_no (asked Degree (leb 2 p && leb p 1277) ∷ asked Length b ∷ asked (NotACode 0) c ∷ [])) (lengths ∙ sym yes.1) (both ∙ sym yes.2)
 

@@ -152,14 +152,14 @@ module _ (ng nf nv nh : ℕ) (text : List ℕ) where
 
         pub key_read : (hs : List ℕ) → IsLast d hs → IsKey text gs fs vs hs
         key_read hs last =
-            let some-d : 0 < length d = ⊎_elim (λ e. omega (arith, ap length e)) (λ e. omega (arith, ap length e)) last.written in
-            let in-v = reads-v.reads some-d in
-            let in_f = reads-f.reads (omega (arith, ap length in-v.written)) in
+            let some_d : 0 < length d = ⊎_elim (λ e. omega (arith, ap length e)) (λ e. omega (arith, ap length e)) last.written in
+            let in_v = reads-v.reads some_d in
+            let in_f = reads-f.reads (omega (arith, ap length in_v.written)) in
             let in_g = reads-g.reads (omega (arith, ap length in_f.written)) in
             record {
               g_codes = in_g.codes;
               f_codes = in_f.codes;
-              v_codes = in-v.codes;
+              v_codes = in_v.codes;
               h_codes = last.codes;
-              written = over (trit_line 103 gs) _ a text in_g.written (over (trit_line 102 fs) _ b a in_f.written (over (trit_line 118 vs) _ d b in-v.written last.written));
+              written = over (trit_line 103 gs) _ a text in_g.written (over (trit_line 102 fs) _ b a in_f.written (over (trit_line 118 vs) _ d b in_v.written last.written));
             }

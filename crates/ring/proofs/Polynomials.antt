@@ -10,7 +10,7 @@ use Rattle.field.specs.Rings.{Operations, CommutativeRing, Normal}
 use Rattle.field.specs.Convolution.{tabulate, at, convolution}
 use Rattle.field.proofs.Tables.{length_tabulate, get_d_tabulate, tabulate_is, tabulate_ext}
 use Rattle.field.proofs.Sums.{zero_normal, times_zero, at_convolution}
-use Rattle.ring.specs.Polynomials.{horner, power, unit_at, times_xat, fold_at, truncated, zeros, unit, sum, difference, scaled, times_x, fold, space, through, product, value, polynomials}
+use Rattle.ring.specs.Polynomials.{horner, power, unit_at, times_x_at, fold_at, truncated, zeros, unit, sum, difference, scaled, times_x, fold, space, through, product, value, polynomials}
 use Rattle.ring.proofs.Horner.{Linear, SpaceLaws, none_twice, keeps_none, add_left, horner_linear, horner_x, horner_swap, horner_normal, horner_of_normal, horner_zero, horner_append, horner_power, horner_coefficients}
 
 module _ {C : Type 0} {O : Operations C} (R : CommutativeRing O) where
@@ -128,14 +128,14 @@ module _ {C : Type 0} {O : Operations C} (R : CommutativeRing O) (p : ℕ) where
 
 module _ {C : Type 0} {O : Operations C} (R : CommutativeRing O) (p : ℕ) (big : 2 ≤ p) where
   -- only what stands below p counts
-  times_xat_cong : (f g : ℕ → C) → ((k : ℕ) → k < p → f k ≡ g k) → (k : ℕ) → k < p → times_xat O p f k ≡ times_xat O p g k
-  times_xat_cong f g e zero h = e (p - 1) (omega arith)
-  times_xat_cong f g e (suc zero) h = ap₂ O.plus (e 0 (omega arith)) (e (p - 1) (omega arith))
-  times_xat_cong f g e (suc (suc k)) h = e (suc k) (omega arith)
+  times_x_at_cong : (f g : ℕ → C) → ((k : ℕ) → k < p → f k ≡ g k) → (k : ℕ) → k < p → times_x_at O p f k ≡ times_x_at O p g k
+  times_x_at_cong f g e zero h = e (p - 1) (omega arith)
+  times_x_at_cong f g e (suc zero) h = ap₂ O.plus (e 0 (omega arith)) (e (p - 1) (omega arith))
+  times_x_at_cong f g e (suc (suc k)) h = e (suc k) (omega arith)
 
-  pub times_x_tabulate : (f : ℕ → C) → times_x O p (tabulate p f) ≡ tabulate p (times_xat O p f)
+  pub times_x_tabulate : (f : ℕ → C) → times_x O p (tabulate p f) ≡ tabulate p (times_x_at O p f)
   unfolding times_x
-  times_x_tabulate f = tabulate_ext p _ _ (times_xat_cong _ f (get_d_tabulate p f _))
+  times_x_tabulate f = tabulate_ext p _ _ (times_x_at_cong _ f (get_d_tabulate p f _))
 
   pub linear : Linear (space O p) (times_x O p)
   unfolding sum scaled times_x
@@ -144,12 +144,12 @@ module _ {C : Type 0} {O : Operations C} (R : CommutativeRing O) (p : ℕ) (big 
     scales = λ c a. times_x_tabulate _ ∙ ap (tabulate p) (fun_ext (scales c a)) ∙ sym (scaled_tabulate O p c _);
   }
     where
-      adds : (a b : List C) (k : ℕ) → times_xat O p (λ i. O.plus (at O a i) (at O b i)) k ≡ O.plus (times_xat O p (at O a) k) (times_xat O p (at O b) k)
+      adds : (a b : List C) (k : ℕ) → times_x_at O p (λ i. O.plus (at O a i) (at O b i)) k ≡ O.plus (times_x_at O p (at O a) k) (times_x_at O p (at O b) k)
       adds a b zero = refl
       adds a b (suc zero) = simp (R.plus_assoc, plus_left R (at O b 0))
       adds a b (suc (suc k)) = refl
 
-      scales : (c : C) (a : List C) (k : ℕ) → times_xat O p (λ i. O.times c (at O a i)) k ≡ O.times c (times_xat O p (at O a) k)
+      scales : (c : C) (a : List C) (k : ℕ) → times_x_at O p (λ i. O.times c (at O a i)) k ≡ O.times c (times_x_at O p (at O a) k)
       scales c a zero = refl
       scales c a (suc zero) = sym (R.times_plus c _ _)
       scales c a (suc (suc k)) = refl
@@ -165,7 +165,7 @@ module _ {C : Type 0} {O : Operations C} (R : CommutativeRing O) (p : ℕ) (big 
       last : O.plus O.zero (at O cs (p - 1)) ≡ O.zero
       last = ap (O.plus _) (get_or_past cs (p - 1) O.zero (omega arith)) ∙ zero_normal R
 
-      go : (k : ℕ) → O.plus (O.times c (unit_at O k)) (times_xat O p (λ i. O.plus O.zero (at O cs i)) k) ≡ O.plus O.zero (at O (c ∷ cs) k)
+      go : (k : ℕ) → O.plus (O.times c (unit_at O k)) (times_x_at O p (λ i. O.plus O.zero (at O cs i)) k) ≡ O.plus O.zero (at O (c ∷ cs) k)
       go zero = ap₂ O.plus (R.times_comm c _ ∙ R.one_times c) last ∙ plus_zero R _ ∙ R.plus_normal _ c
       go (suc zero) = ap₂ O.plus (times_zero R c) (ap (O.plus _) last ∙ plus_zero R _ ∙ R.plus_normal _ _) ∙ R.plus_normal _ _
       go (suc (suc k)) = ap₂ O.plus (times_zero R c) refl ∙ R.plus_normal _ _
@@ -262,7 +262,7 @@ module _ {C : Type 0} {O : Operations C} (R : CommutativeRing O) (p : ℕ) (big 
       last : monomial n (p - 1) ≡ O.zero
       last = monomial_other n (p - 1) (omega arith)
 
-      go : (k : ℕ) → times_xat O p (monomial n) k ≡ monomial (suc n) k
+      go : (k : ℕ) → times_x_at O p (monomial n) k ≡ monomial (suc n) k
       go zero = last
       go (suc zero) = ap (O.plus (monomial n 0)) last ∙ monomial_normal n
       go (suc (suc k)) = refl
@@ -280,7 +280,7 @@ module _ {C : Type 0} {O : Operations C} (R : CommutativeRing O) (p : ℕ) (big 
       last : O.plus O.one (unit_at O (p - 1)) ≡ O.one
       last = ap (O.plus O.one) (monomial_other 0 (p - 1) (omega arith)) ∙ plus_zero R _ ∙ R.one_normal
 
-      go : (k : ℕ) → k < p → times_xat O p (monomial (p - 1)) k ≡ O.plus (unit_at O k) (times_xat O p (unit_at O) k)
+      go : (k : ℕ) → k < p → times_x_at O p (monomial (p - 1)) k ≡ O.plus (unit_at O k) (times_x_at O p (unit_at O) k)
       go zero h = monomial_same (p - 1) ∙ sym last
       go (suc zero) h = ap₂ O.plus (monomial_other (p - 1) 0 (omega arith)) (monomial_same (p - 1) ∙ sym last)
       go (suc (suc k)) h = monomial_other (p - 1) (suc k) (omega arith) ∙ sym (zero_normal R)

@@ -28,10 +28,10 @@ module _ {C : Type 0} (O : Operations C) where
   unit_at (suc k) = O.zero
 
   -- of x·f, where x^p = x + 1: the last coefficient comes back at 0 and at 1
-  abbrev pub times_xat : ℕ → (ℕ → C) → ℕ → C
-  times_xat p f zero = f (p - 1)
-  times_xat p f (suc zero) = O.plus (f 0) (f (p - 1))
-  times_xat p f (suc (suc k)) = f (suc k)
+  abbrev pub times_x_at : ℕ → (ℕ → C) → ℕ → C
+  times_x_at p f zero = f (p - 1)
+  times_x_at p f (suc zero) = O.plus (f 0) (f (p - 1))
+  times_x_at p f (suc (suc k)) = f (suc k)
 
   -- of what 2p - 1 coefficients are modulo x^p - x - 1: coefficient p + k comes back at k and at k + 1
   abbrev pub fold_at : ℕ → (ℕ → C) → ℕ → C
@@ -59,7 +59,7 @@ module _ {C : Type 0} (O : Operations C) (p : ℕ) where
   scaled c a = tabulate p (λ k. O.times c (at O a k))
 
   unfoldable pub times_x : List C → List C
-  times_x a = tabulate p (times_xat O p (at O a))
+  times_x a = tabulate p (times_x_at O p (at O a))
 
   unfoldable pub fold : List C → List C
   fold c = tabulate p (fold_at O p (at O c))

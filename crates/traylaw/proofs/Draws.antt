@@ -43,12 +43,12 @@ module _ {K : Calculus} (L : Lawful K) where
       let coded : coded_last K (length rs) sheet ≡ true =
       and_from _ _ (ap (all_codes K.size) n ∙ f.0.num.codes)
       (and_from _ _ (ap (all_codes K.size) d ∙ f.0.den.codes) (and_from _ _ (ap (all_codes K.size) q ∙ rd.0.codes) (codes_on L sheet rs _ f.1 t rd.2))) in
-      let out-is : drawn_from K (pred count) sheet ≡ times K r.num i =
+      let out_is : drawn_from K (pred count) sheet ≡ times K r.num i =
       ap (λ m. drawn_from K m sheet) k ∙ ap₂ (times K) n (ap₂ (times K) q (product_on K sheet rs _ f.1 t rd.2)) in
       record {
         some = omega arith;
         codes = ap (λ m. coded_last K m sheet) k ∙ coded;
-        quotient = subst (λ (z : List ℕ). Quotient K last.num last.den z) (sym out-is)
+        quotient = subst (λ (z : List ℕ). Quotient K last.num last.den z) (sym out_is)
             (subst (λ (x : Entry). Quotient K x.num x.den (times K r.num i)) en (quotient_is L r.num r.den i f.0.num ok));
         inverse = i;
         inverts = ap (λ (x : Entry). times K x.den i) (sym en) ∙ ok;

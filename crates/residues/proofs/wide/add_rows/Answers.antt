@@ -25,7 +25,7 @@ window-lanes-requires g c =
     let near : at + 32 ≤ 32 * c.args.n = omega (arith, c.loop-i-test.true) in
     let low : (0 < lo) → length ys + 2 * lo ≤ at + 1 = c.first_pair-lo.ensures in
     let enough : (2 * hi + 1 < length xs) → at + 32 ≤ 2 * hi = c.end_pair-hi.ensures.enough in
-    let lo-most : 2 * lo ≤ length xs = elim (cases_lt 0 lo) [ inl p ↦ omega (arith, low p, near, c.requires.fits) | inr p ↦ omega arith ] in
+    let lo_most : 2 * lo ≤ length xs = elim (cases_lt 0 lo) [ inl p ↦ omega (arith, low p, near, c.requires.fits) | inr p ↦ omega arith ] in
     let order : lo ≤ hi =
     elim (cases_lt (2 * hi + 1) (length xs))
     [ inl p ↦ elim (cases_lt 0 lo) [ inl r ↦ omega (arith, low r, enough p) | inr r ↦ omega arith ] | inr p ↦ omega (arith, c.requires.even) ] in record {
@@ -35,7 +35,7 @@ window-lanes-requires g c =
       right = c.requires.right;
       order = order;
       most = c.end_pair-hi.ensures.most;
-      before = λ k h. pair_skip g.row.Q lo ys xs bs (190 + (at + k)) c.requires.spread (λ p. omega (arith, low p)) lo-most;
+      before = λ k h. pair_skip g.row.Q lo ys xs bs (190 + (at + k)) c.requires.spread (λ p. omega (arith, low p)) lo_most;
       after = λ k h. elim (cases_lt (2 * hi + 1) (length xs)) [
         | inl p ↦ pair_low g.row.Q ys (drop (2 * hi) xs) bs (190 + (at + k) - 2 * hi) c.requires.spread (omega (arith, enough p))
         | inr p ↦ pair_end xs bs (2 * hi) (190 + (at + k) - 2 * hi) (omega (arith, c.requires.even))
