@@ -109,8 +109,8 @@ fn main(rt: HostRuntime) -> anyhow::Result<()> {
         time_inverse::<Z4591>(&rt, "Z_4591", p)?;
         time_inverse::<Z3>(&rt, "Z_3", p)?;
     }
+    println!(rt; "timed products and inverses over 2 fields at 4 degrees")?;
     time_trays::<Z4591>(&rt, "Z_4591")?;
     time_trays::<Z3>(&rt, "Z_3")?;
-    println!(rt; "timed products and inverses over 2 fields at 4 degrees")?;
     Ok(())
 }

@@ -129,23 +129,23 @@ module _ (ng nf nv nh : ℕ) (text : List ℕ) where
   pub no_g : NoTrits 103 ng text → NoKey ng nf nv nh text
   no_g none g f v h lg lf lv lh is = none g _ lg (line_g text g f v h is)
 
-  module _ (gs a : List ℕ) (reads-g : TritsRead 103 ng text gs a) where
+  module _ (gs a : List ℕ) (reads_g : TritsRead 103 ng text gs a) where
     at_g : (g f v h : List ℕ) → length g ≡ ng → (is : IsKey text g f v h) → (below_g text g f v h is).rest ≡ a
-    at_g g f v h lg is = reads-g.only g _ lg (line_g text g f v h is)
+    at_g g f v h lg is = reads_g.only g _ lg (line_g text g f v h is)
 
     pub no_f : NoTrits 102 nf a → NoKey ng nf nv nh text
     no_f none g f v h lg lf lv lh is = none f _ lf (subst (λ t. TritsThen 102 t f (below_f text g f v h is).rest) (at_g g f v h lg is) (line_f text g f v h is))
 
-    module _ (fs b : List ℕ) (reads-f : TritsRead 102 nf a fs b) where
+    module _ (fs b : List ℕ) (reads_f : TritsRead 102 nf a fs b) where
       at_f : (g f v h : List ℕ) → length g ≡ ng → length f ≡ nf → (is : IsKey text g f v h) → (below_f text g f v h is).rest ≡ b
-      at_f g f v h lg lf is = reads-f.only f _ lf (subst (λ t. TritsThen 102 t f (below_f text g f v h is).rest) (at_g g f v h lg is) (line_f text g f v h is))
+      at_f g f v h lg lf is = reads_f.only f _ lf (subst (λ t. TritsThen 102 t f (below_f text g f v h is).rest) (at_g g f v h lg is) (line_f text g f v h is))
 
       pub no_v : NoTrits 118 nv b → NoKey ng nf nv nh text
       no_v none g f v h lg lf lv lh is = none v _ lv (subst (λ t. TritsThen 118 t v (below_v text g f v h is).rest) (at_f g f v h lg lf is) (line_v text g f v h is))
 
-      module _ (vs d : List ℕ) (reads-v : TritsRead 118 nv b vs d) where
+      module _ (vs d : List ℕ) (reads_v : TritsRead 118 nv b vs d) where
         at_v : (g f v h : List ℕ) → length g ≡ ng → length f ≡ nf → length v ≡ nv → (is : IsKey text g f v h) → (below_v text g f v h is).rest ≡ d
-        at_v g f v h lg lf lv is = reads-v.only v _ lv (subst (λ t. TritsThen 118 t v (below_v text g f v h is).rest) (at_f g f v h lg lf is) (line_v text g f v h is))
+        at_v g f v h lg lf lv is = reads_v.only v _ lv (subst (λ t. TritsThen 118 t v (below_v text g f v h is).rest) (at_f g f v h lg lf is) (line_v text g f v h is))
 
         pub no_h : NoneOf nh (IsLast d) → NoKey ng nf nv nh text
         no_h none g f v h lg lf lv lh is = none h lh (subst (λ t. IsLast t h) (at_v g f v h lg lf lv is) (line_h text g f v h is))
@@ -153,9 +153,9 @@ module _ (ng nf nv nh : ℕ) (text : List ℕ) where
         pub key_read : (hs : List ℕ) → IsLast d hs → IsKey text gs fs vs hs
         key_read hs last =
             let some_d : 0 < length d = ⊎_elim (λ e. omega (arith, ap length e)) (λ e. omega (arith, ap length e)) last.written in
-            let in_v = reads-v.reads some_d in
-            let in_f = reads-f.reads (omega (arith, ap length in_v.written)) in
-            let in_g = reads-g.reads (omega (arith, ap length in_f.written)) in
+            let in_v = reads_v.reads some_d in
+            let in_f = reads_f.reads (omega (arith, ap length in_v.written)) in
+            let in_g = reads_g.reads (omega (arith, ap length in_f.written)) in
             record {
               g_codes = in_g.codes;
               f_codes = in_f.codes;

@@ -10,5 +10,6 @@ mod run;
 mod starts;
 mod steps_call;
 
+pub use divstep::theorems;
 pub use inverse_call::inverse;
 pub use steps_call::steps;

@@ -21,4 +21,5 @@ mod trays;
 
 pub use burn_call::Burns;
 pub use open_call::open;
+pub use traylaw::theorems;
 pub use trays::{BurnOwed, ClosedTray, OpenTray};
