@@ -4,9 +4,10 @@
 usage: python3 tools/as_landed.py LANDED     at the top; LANDED is a checkout of the commit in the first line of
                                              docs/PORT.md, turned by the kit's port.py and by tools/respell.py
 
-The definitions of the landed crates/tray/specs/Effects.antt are put into a copy of `traylaw`, beside today's, and the
-prover is asked that each of them is today's by computation alone (`refl`). Of the landed Runs.antt and Law.antt the
-words are compared: `K.degree` may stand where `K` stood. Nothing of the repository is changed.
+The definitions of the landed crates/tray/specs/Effects.antt that take a calculus K are put into a copy of `traylaw`,
+beside today's, and the prover is asked that each of them is today's by computation alone (`refl`). Of the others
+there, of Calculus.antt, Runs.antt and Law.antt, and of the signatures of the landed proofs, the words are compared:
+`K.degree` may stand where `K` stood. Nothing of the repository is changed.
 """
 
 import os
@@ -43,9 +44,6 @@ def landed_effects(landed):
     """The landed definitions, over the phases and the answers of today, whose words are the same."""
     text = read(f"{landed}/crates/tray/specs/Effects.antt")
     begin, end = text.index("-- an open tray is filled"), text.index("-- the new value if the call is accepted")
-    for name in ("data Phase", "record After"):
-        if name not in text[begin:end]:
-            sys.exit(f"as_landed: no {name} where it is looked for")
     text = text[:begin] + text[end:]
     for old, new in MOVED.items():
         text = text.replace(old, new)
@@ -76,20 +74,62 @@ def equalities(text, specs):
     return len(found), "".join(made)
 
 
-def worded(path):
-    """A file's words, without imports and comments, with `K.degree` read as `K`."""
-    lines = [it for it in read(path).splitlines() if not it.lstrip().startswith(("use ", "--"))]
-    return " ".join("\n".join(lines).replace("K.degree", "K").split())
+def words(text):
+    """A text's words, without imports and comments, with `K.degree` read as `K`."""
+    lines = [it for it in text.splitlines() if not it.lstrip().startswith(("use ", "--"))]
+    return " ".join("\n".join(lines).replace("(K.degree)", "K").replace("K.degree", "K").split())
+
+
+def outside(text):
+    """The definitions that stand in no module, each by its words."""
+    found = [words(it) for it in re.split(r"\n\s*\n", text) if not it.startswith((" ", "module"))]
+    return {it for it in found if it}
+
+
+def signatures(folder):
+    """The signatures of the lemma files of a folder, each by its words."""
+    found = set()
+    for name in sorted(os.listdir(folder)):
+        if not name.endswith(".antt"):
+            continue
+        lines = read(f"{folder}/{name}").splitlines()
+        for i, line in enumerate(lines):
+            m = re.match(r"^(\s*)(?:abbrev |unfoldable )?(?:pub )?([^\s:(){},.;|]+) : (.*)$", line)
+            if not m or line.lstrip().startswith(("let ", "--", "use ")):
+                continue
+            text = [m[2] + " : " + m[3]]
+            for more in lines[i + 1 :]:
+                deeper = len(more) - len(more.lstrip()) > len(m[1])
+                if not more.strip() or not deeper or re.match(rf"\s*(unfolding|{re.escape(m[2])})\b", more):
+                    break
+                text.append(more)
+            found.add(words("\n".join(text)))
+    return found
+
+
+def compare(landed):
+    """Compares the words of what the prover is not asked about."""
+    law = "crates/traylaw"
+    for name in ("Calculus", "Runs", "Law"):
+        if words(read(f"{landed}/crates/tray/specs/{name}.antt")) != words(read(f"{law}/specs/{name}.antt")):
+            sys.exit(f"as_landed: FAILED: {name}.antt says something else")
+        print(f"as_landed: {name}.antt: the same words")
+    old = outside(read(f"{landed}/crates/tray/specs/Effects.antt"))
+    new = outside(read(f"{law}/specs/Effects.antt")) | outside(read(f"{law}/specs/Sheets.antt"))
+    if old - new:
+        sys.exit("as_landed: FAILED: Effects.antt: " + "; ".join(old - new))
+    print(f"as_landed: Effects.antt: {len(old)} definitions that take no K: the same words")
+    old, new = signatures(f"{landed}/crates/tray/proofs"), signatures(f"{law}/proofs")
+    if old - new:
+        sys.exit("as_landed: FAILED: proofs/: " + "; ".join(old - new))
+    print(f"as_landed: proofs/: {len(old)} signatures: the same words")
 
 
 def main():
     if len(sys.argv) != 2:
         sys.exit(__doc__)
     landed = sys.argv[1]
-    for name in ("Runs", "Law"):
-        if worded(f"{landed}/crates/tray/specs/{name}.antt") != worded(f"crates/traylaw/specs/{name}.antt"):
-            sys.exit(f"as_landed: FAILED: {name}.antt says something else")
-        print(f"as_landed: {name}.antt: the same words")
+    compare(landed)
     with tempfile.TemporaryDirectory() as room:
         shutil.copy("crates.txt", room)
         shutil.copytree("crates", f"{room}/crates", ignore=shutil.ignore_patterns("out"))
@@ -104,7 +144,7 @@ def main():
         ran = subprocess.run(["rt", "check"], cwd=law, stdout=subprocess.PIPE, stderr=subprocess.STDOUT, text=True)
     if ran.returncode or not re.search(r"(?m)^logic=proved", ran.stdout):
         sys.exit(ran.stdout + "as_landed: FAILED")
-    print(f"as_landed: Effects.antt: {count} definitions are today's by computation alone")
+    print(f"as_landed: Effects.antt: {count} definitions that take K are today's by computation alone")
 
 
 main()
