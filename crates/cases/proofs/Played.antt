@@ -1,11 +1,11 @@
 -- Calls that are answered as defined, one after another, are a run.
 -- Main results: `played`.
-use Rattle.std.proofs.Common.{◌≡◌, ℕ, List, [], ◌∷◌, ◌++◌, length, take, drop, sym, refl, ap, ◌∙◌, append-nil, arith}
+use Rattle.std.proofs.Common.{◌≡◌, ℕ, List, [], ◌∷◌, ◌++◌, length, take, sym, refl, ap, ◌∙◌, append-nil, arith}
 use Rattle.std.proofs.lemmas.List.{take_all, drop_all, length-take}
 use Rattle.traylaw.specs.Calculus.{Calculus}
 use Rattle.traylaw.specs.Sheets.{room}
-use Rattle.traylaw.specs.Effects.{Phase, Phase.Closed, Phase.Burnt, after_open}
-use Rattle.traylaw.specs.Runs.{Event, Tray, effect, laid, Step, Opened, Run, Run.opened, Run.then}
+use Rattle.traylaw.specs.Effects.{Phase, Phase.Closed, Phase.Burnt}
+use Rattle.traylaw.specs.Runs.{Event, Tray, effect, laid, Step, Run, Run.opened, Run.then}
 use Rattle.cases.specs.Trays.{AnswersFrom, Answers, onto}
 
 pub closed_burnt : Closed ≡ Burnt → ⊥

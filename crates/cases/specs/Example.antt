@@ -1,5 +1,5 @@
 -- A run of the law over Z_5, so that the law speaks of something.
-use Rattle.std.specs.Prelude.{ℕ, List, [], ◌∷◌}
+use Rattle.std.specs.Prelude.{List, [], ◌∷◌}
 use Rattle.refusal.specs.declared.Refusal.TheVariants.{Full, NoInverse}
 use Rattle.residues.specs.Residues.{residues, reciprocal_mod}
 use Rattle.traylaw.specs.Calculus.{Calculus, calculus}

@@ -2,11 +2,11 @@
 -- Main results: `horner_commute` and `horner_swap`, that they commute with what X commutes with, and with each other;
 -- `horner_coefficients`, that the coefficients of a product make the one polynomial after the other;
 -- `horner_append`, `horner_shift` and `horner_power` on lists one behind the other and on powers of X.
-use Rattle.std.proofs.Common.{◌≡◌, ℕ, zero, suc, ◌+◌, ◌<◌, ◌≤◌, List, [], ◌∷◌, ◌++◌, length, get_or, replicate, sym, refl, ap, ◌∙◌, ap₂, suc-add, zero-add, arith}
+use Rattle.std.proofs.Common.{◌≡◌, ℕ, zero, suc, ◌+◌, ◌≤◌, List, [], ◌∷◌, ◌++◌, length, replicate, sym, refl, ap, ◌∙◌, ap₂, suc-add, zero-add, arith}
 use mathlib.Core.Path.{fun_ext}
 use Rattle.field.specs.Rings.{Operations, CommutativeRing}
 use Rattle.field.specs.Convolution.{tabulate, at, coefficient}
-use Rattle.field.proofs.Tables.{tabulate_more, tabulate_none, length_tabulate, get_d_tabulate, tabulate_is}
+use Rattle.field.proofs.Tables.{tabulate_more, tabulate_none}
 use Rattle.field.proofs.Sums.{coefficient_none, coefficient_first, coefficient_more}
 use Rattle.ring.specs.Polynomials.{Space, horner, power}
 

@@ -1,4 +1,4 @@
-use Rattle.std.proofs.Common.{◌≡◌, ℕ, ◌+◌, length, ap, ◌∙◌, arith}
+use Rattle.std.proofs.Common.{ℕ, ◌+◌, length, ap, ◌∙◌, arith}
 use Rattle.field.specs.Meaning.{coded}
 use Rattle.field.specs.Convolution.{convolution}
 use Rattle.field.proofs.Codes.{coded_ring}

@@ -1,9 +1,9 @@
-use Rattle.std.proofs.Common.{◌≡◌, ℕ, zero, suc, ◌+◌, ◌-◌, length, sym, refl, ap, ◌∙◌, arith, length-set, below_more}
+use Rattle.std.proofs.Common.{ℕ, zero, suc, ◌+◌, ◌-◌, length, sym, refl, ◌∙◌, arith, length-set, below_more}
 use Rattle.std.proofs.lemmas.List.{get_or-set_same, get_or-set_other}
 use Rattle.field.specs.Meaning.{coded}
 use Rattle.field.specs.Convolution.{at}
 use Rattle.field.proofs.Tables.{tabulate_is}
-use Rattle.ring.specs.Polynomials.{fold, fold_at}
+use Rattle.ring.specs.Polynomials.{fold}
 use Rattle.ring.proofs.Polynomials.{fold_at_is}
 use Rattle.ring.proofs.multiplication.fold.Goals as goal
 
