@@ -1,5 +1,5 @@
 -- Products of lists of coefficients, the constant first, and the row operation of a division step.
--- Main definitions: `coefficient`, `convolution`, `mixed`.
+-- Main definitions: `coefficient`, `added`, `convolution`, `mixed`.
 use Rattle.std.specs.Prelude.{ℕ, zero, suc, ◌-◌, List, map, length, slice_index_or}
 use Rattle.std.specs.List.{range_with_len}
 use Rattle.field.specs.Rings.{Operations}
@@ -21,6 +21,10 @@ module _ {C : Type 0} (O : Operations C) where
   -- coefficient k of the product of a and b: the sum of a_i·b_(k - i) for i from 0 to k
   unfoldable pub coefficient : List C → List C → ℕ → C
   coefficient a b k = sum_below (suc k) (λ i. O.times (at a i) (at b (k - i)))
+
+  -- the first n coefficients of the sum of a and b
+  abbrev pub added : ℕ → List C → List C → List C
+  added n a b = tabulate n (λ k. O.plus (at a k) (at b k))
 
   -- the first n coefficients of the product of a and b
   abbrev pub convolution : ℕ → List C → List C → List C

@@ -8,7 +8,7 @@
 
 ghost use Rattle.std.specs.Prelude.{◌≡◌, ℕ, ◌+◌, ◌<◌, ◌≤◌, length, Option, nat_lt, slice_index};
 ghost use Rattle.field.specs.Meaning.{Arithmetic, ArithmeticLaws, ReciprocalLaws, code, coded, all_codes};
-ghost use Rattle.field.specs.Convolution.{coefficient, convolution, mixed};
+ghost use Rattle.field.specs.Convolution.{coefficient, added, convolution, mixed};
 
 /// A finite field by its meaning: the size and four functions on codes, and the laws that they keep.
 /// Every call reads a number that is no code as 0.
@@ -41,18 +41,27 @@ pub trait Field {
         ensures { result ≡ coefficient (coded arithmetic) a.now b.now k }
     {
         let mut sum = 0;
-        for i in 0..terms(a.len(), k) {
-            sum = Self::add(sum, Self::mul(a[i], at(b, k - i)));
+        for (i, x) in a[..terms(a.len(), k)].iter().enumerate() {
+            sum = Self::add(sum, Self::mul(*x, at(b, k - i)));
         }
         sum
+    }
+
+    /// The sum of two lists of any lengths, the constants first: as many coefficients as `out` has.
+    fn sum(a: &[u16], b: &[u16], out: &mut [u16])
+        ensures { out.new ≡ added (coded arithmetic) (length out.old) a.now b.now }
+    {
+        for (k, x) in out.iter_mut().enumerate() {
+            *x = Self::add(at(a, k), at(b, k));
+        }
     }
 
     /// The product term by term. An implementation keeps this body.
     fn product_by_terms(a: &[u16], b: &[u16], out: &mut [u16])
         ensures { out.new ≡ convolution (coded arithmetic) (length out.old) a.now b.now }
     {
-        for k in 0..out.len() {
-            out[k] = Self::coefficient(a, b, k);
+        for (k, place) in out.iter_mut().enumerate() {
+            *place = Self::coefficient(a, b, k);
         }
     }
 
@@ -68,8 +77,8 @@ pub trait Field {
     fn mix(c: u16, a: &mut [u16], d: u16, b: &[u16])
         ensures { a.new ≡ mixed (coded arithmetic) c a.old d b.now }
     {
-        for k in 0..a.len() {
-            a[k] = Self::sub(Self::mul(c, a[k]), Self::mul(d, at(b, k)));
+        for (k, x) in a.iter_mut().enumerate() {
+            *x = Self::sub(Self::mul(c, *x), Self::mul(d, at(b, k)));
         }
     }
 
@@ -84,14 +93,14 @@ fn terms(len: usize, k: usize) -> usize
     ensures reached { result ≤ k + 1 }
     ensures whole { result < k + 1 → result ≡ len }
 {
-    if k < len { k + 1 } else { len }
+    len.min(k.saturating_add(1))
 }
 
 /// Coefficient k of a list, which past the end is 0.
 pub fn at(a: &[u16], k: usize) -> u16
     ensures { result ≡ slice_index a.now k }
 {
-    if k < a.len() { a[k] } else { 0 }
+    a.get(k).copied().unwrap_or(0)
 }
 
 /// Whether a number is a code.

@@ -44,33 +44,28 @@ pub struct Report {
     pub steps: u32,
 }
 
-impl Refusal {
-    /// The number, the entry and the steps of this refusal.
-    pub fn report(&self) -> Report
-        ensures { result ≡ report_of self.now }
-    {
-        match self {
-            Refusal::Degree => told(1, 0, 0),
-            Refusal::Capacity => told(2, 0, 0),
-            Refusal::Range => told(3, 0, 0),
-            Refusal::Sheet => told(4, 0, 0),
-            Refusal::Scratch => told(5, 0, 0),
-            Refusal::Length => told(6, 0, 0),
-            Refusal::NotACode { entry } => told(7, *entry, 0),
-            Refusal::NoEntry => told(8, 0, 0),
-            Refusal::Full => told(9, 0, 0),
-            Refusal::Shelf => told(10, 0, 0),
-            Refusal::NoInverse { entry, steps } => told(13, *entry, *steps),
-        }
-    }
-}
+/// The number, the entry and the steps of a refusal.
+impl From<Refusal> for Report {
+    ghost from_gives = { λ refusal report. report ≡ report_of refusal };
 
-fn told(number: u32, entry: u32, steps: u32) -> Report
-    ensures { result ≡ record { number = number; entry = entry; steps = steps } }
-{
-    Report {
-        number,
-        entry,
-        steps,
+    fn from(refusal: Refusal) -> Report {
+        let (number, entry, steps) = match refusal {
+            Refusal::Degree => (1, 0, 0),
+            Refusal::Capacity => (2, 0, 0),
+            Refusal::Range => (3, 0, 0),
+            Refusal::Sheet => (4, 0, 0),
+            Refusal::Scratch => (5, 0, 0),
+            Refusal::Length => (6, 0, 0),
+            Refusal::NotACode { entry } => (7, entry, 0),
+            Refusal::NoEntry => (8, 0, 0),
+            Refusal::Full => (9, 0, 0),
+            Refusal::Shelf => (10, 0, 0),
+            Refusal::NoInverse { entry, steps } => (13, entry, steps),
+        };
+        Report {
+            number,
+            entry,
+            steps,
+        }
     }
 }

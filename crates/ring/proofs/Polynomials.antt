@@ -103,12 +103,17 @@ module _ {C : Type 0} (O : Operations C) (p : ℕ) where
   unfolding product
   product_through a b h = ap (λ l. through O p l b) (truncated_is a h)
 
-  -- `fold_at` at indices as code has them
-  pub fold_at_is : (f : ℕ → C) (k u v : ℕ) → 1 ≤ k → u ≡ p + k → v + 1 ≡ p + k → fold_at O p f k ≡ O.plus (f k) (O.plus (f u) (f v))
-  fold_at_is f zero u v h d e = absurd (omega arith)
-  fold_at_is f (suc k) u v h d e = ap₂ (λ m n. O.plus (f (suc k)) (O.plus (f m) (f n))) (sym d) (omega arith)
-
 module _ {C : Type 0} {O : Operations C} (R : CommutativeRing O) (p : ℕ) where
+  -- one place of a fold, where `carried` is the coefficient before p + k, if there is one, else zero
+  pub fold_at_carried : (f : ℕ → C) (k : ℕ) (carried : C) → (k ≡ 0 → carried ≡ O.zero) → ((i : ℕ) → k ≡ suc i → carried ≡ f (p + i)) → O.plus (f k) (O.plus (f (p + k)) carried) ≡ fold_at O p f k
+  fold_at_carried f zero carried first later =
+      ap (λ x. O.plus (f 0) (O.plus (f (p + 0)) x)) (first refl)
+      ∙ sym (R.plus_assoc (f 0) (f (p + 0)) O.zero)
+      ∙ R.plus_comm _ O.zero
+      ∙ R.plus_normal (f 0) (f (p + 0))
+      ∙ ap (λ n. O.plus (f 0) (f n)) (add-zero p)
+  fold_at_carried f (suc k) carried first later = ap (λ x. O.plus (f (suc k)) (O.plus (f (p + suc k)) x)) (later k refl)
+
   pub unit_normal : (k : ℕ) → Normal O (unit_at O k)
   unit_normal zero = R.one_normal
   unit_normal (suc k) = zero_normal R

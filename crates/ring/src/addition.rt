@@ -12,22 +12,12 @@ use field::Field;
 use refusal::Refusal;
 
 /// The sum of two polynomials of p codes.
+#[tactic(auto, unfolding(crate::specs::Polynomials::sum))]
 pub fn sum<F: Field>(p: usize, a: &[u16], b: &[u16], out: &mut [u16]) -> Result<(), Refusal>
     ensures refused_as_asked { result_err result ≡ first_no (operands_asked F.Field.arithmetic.size p a.now b.now (length out.old)) }
     ensures out_is_sum { out.new ≡ (if is_ok result then sum_of (coded F.Field.arithmetic) p a.now b.now else out.old) }
 {
     ask_operands::<F>(p, a, b, out.len())?;
-    add_all::<F>(a, b, out);
+    F::sum(a, b, out);
     Ok(())
-}
-
-/// The sum of two lists as long as the output.
-fn add_all<F: Field>(a: &[u16], b: &[u16], out: &mut [u16])
-    requires left { length a.now ≡ length out.old }
-    requires right { length b.now ≡ length out.old }
-    ensures { out.new ≡ sum_of (coded F.Field.arithmetic) (length out.old) a.now b.now }
-{
-    for k in 0..out.len() {
-        out[k] = F::add(a[k], b[k]);
-    }
 }

@@ -57,17 +57,9 @@ fn fold<F: Field>(plain: &[u16], out: &mut [u16])
     ensures { out.new ≡ fold_of (coded F.Field.arithmetic) (length out.old) plain.now }
 {
     let p = out.len();
-    out[0] = F::add(plain[0], plain[p]);
-    for k in 1..p {
-        out[k] = folded::<F>(plain, p, k);
+    let mut carried = 0;
+    for (k, x) in out.iter_mut().enumerate() {
+        *x = F::add(plain[k], F::add(plain[p + k], carried));
+        carried = plain[p + k];
     }
-}
-
-/// Coefficient k of the fold, from 1 on.
-fn folded<F: Field>(plain: &[u16], p: usize, k: usize) -> u16
-    requires least { 1 ≤ k }
-    requires within { p + k < length plain.now }
-    ensures { result ≡ (coded F.Field.arithmetic).plus (slice_index plain.now k) ((coded F.Field.arithmetic).plus (slice_index plain.now (p + k)) (slice_index plain.now (p + k - 1))) }
-{
-    F::add(plain[k], F::add(plain[p + k], plain[p + k - 1]))
 }
