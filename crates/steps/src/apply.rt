@@ -2,7 +2,6 @@
 
 ghost use Rattle.std.specs.Prelude.{◌≡◌, ◌+◌, ◌*◌, ◌≤◌, length};
 ghost use Rattle.field.specs.Meaning.{coded};
-ghost use Rattle.ring.specs.Polynomials.{sum};
 ghost use Rattle.divstep.specs.Batches.{row_times, window as window_of};
 
 use field::{Field, at};
@@ -17,17 +16,6 @@ pub(crate) fn first_codes<F: Field>(a: &[u16]) -> [u16; 16]
         out[k] = at(a, k);
     }
     out
-}
-
-/// The sum of two lists as long as the output.
-fn add_lists<F: Field>(a: &[u16], b: &[u16], out: &mut [u16])
-    requires left { length a.now ≡ length out.old }
-    requires right { length b.now ≡ length out.old }
-    ensures { out.new ≡ sum (coded F.Field.arithmetic) (length out.old) a.now b.now }
-{
-    for k in 0..out.len() {
-        out[k] = F::add(a[k], b[k]);
-    }
 }
 
 /// a·x + b·y without its first `skip` coefficients, in the place of y. Both products are made first.
@@ -47,7 +35,7 @@ fn row_times<F: Field>(
 {
     F::product(a, x, left);
     F::product(b, y, right);
-    add_lists::<F>(&left[skip..], &right[skip..], y);
+    F::sum(&left[skip..], &right[skip..], y);
 }
 
 /// The matrix of w times the column (x, y), without its first `skip` coefficients, in the place of the

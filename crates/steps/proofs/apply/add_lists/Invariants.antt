@@ -1,6 +1,0 @@
-use Rattle.std.proofs.Common.{◌≡◌, ℕ, ◌<◌, get_or}
-use Rattle.field.specs.Meaning.{coded}
-use Rattle.steps.proofs.apply.add_lists.Given as goal
-
-abbrev pub invariant-loop-k : goal.invariant-loop-k
-invariant-loop-k g l = (j : ℕ) → j < l.k → get_or l.out j 0 ≡ (coded g.F.Field.arithmetic).plus (get_or l.a j 0) (get_or l.b j 0)
