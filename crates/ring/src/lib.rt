@@ -3,10 +3,11 @@
 #![tactic(auto)]
 
 mod addition;
+mod degree;
 mod multiplication;
 mod questions;
 pub mod theorems;
 
 pub use addition::sum;
+pub use degree::{Degree, GREATEST_DEGREE, LEAST_DEGREE};
 pub use multiplication::product;
-pub use questions::{GREATEST_DEGREE, LEAST_DEGREE};

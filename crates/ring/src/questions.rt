@@ -5,14 +5,9 @@ ghost use Rattle.std.specs.Result.{result_err};
 ghost use Rattle.refusal.specs.Questions.{first_no};
 ghost use Rattle.ring.specs.Asked.{operands_asked};
 
+use crate::degree::Degree;
 use field::{Field, all_codes};
 use refusal::Refusal;
-
-/// The least degree p.
-pub const LEAST_DEGREE: usize = 2;
-
-/// The greatest degree p.
-pub const GREATEST_DEGREE: usize = 1277;
 
 /// Asks whether p is a degree, a, b and the output have p numbers, and a and b hold codes.
 pub(crate) fn ask_operands<F: Field>(
@@ -23,9 +18,7 @@ pub(crate) fn ask_operands<F: Field>(
 ) -> Result<(), Refusal>
     ensures { result_err result ≡ first_no (operands_asked F.Field.arithmetic.size p a.now b.now out) }
 {
-    if p < LEAST_DEGREE || p > GREATEST_DEGREE {
-        return Err(Refusal::Degree);
-    }
+    Degree::try_from(p)?;
     if a.len() != p || b.len() != p || out != p {
         return Err(Refusal::Length);
     }
