@@ -21,7 +21,8 @@ pub enum Refusal {
     Scratch,
     /// A list has not exactly its length.
     Length,
-    /// A number is no code of the field. Only a call on several entries names one; else `entry` is 0.
+    /// A number is no code of the field. Only a call on several entries names one; else `entry` is 0: entries are
+    /// counted from 1, and a report has 0 for no entry, so an Option here would only be turned back into that 0.
     NotACode { entry: u32 },
     /// There is no entry.
     NoEntry,
@@ -29,11 +30,11 @@ pub enum Refusal {
     Full,
     /// A shelf that is to be read holds a number that is no code.
     Shelf,
-    /// There is no inverse. Only a call on several entries names one; else `entry` is 0.
+    /// There is no inverse. Only a call on several entries names one; else `entry` is 0, as above.
     NoInverse { entry: u32, steps: u32 },
 }
 
-/// What a refusal tells its caller.
+/// What a refusal tells its caller: three plain numbers, as a console shows them.
 #[derive(Clone, Copy, PartialEq, Eq, Debug)]
 pub struct Report {
     /// The number of the question that was answered no.
