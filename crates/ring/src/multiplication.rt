@@ -59,7 +59,14 @@ fn fold<F: Field>(plain: &[u16], out: &mut [u16])
     let p = out.len();
     let mut carried = 0;
     for (k, x) in out.iter_mut().enumerate() {
-        *x = F::add(plain[k], F::add(plain[p + k], carried));
+        *x = folded::<F>(plain[k], plain[p + k], carried);
         carried = plain[p + k];
     }
+}
+
+/// A coefficient of the fold: the one that is there, the one that comes back to it, and the one carried to it.
+fn folded<F: Field>(there: u16, back: u16, carried: u16) -> u16
+    ensures { result ≡ (coded F.Field.arithmetic).plus there ((coded F.Field.arithmetic).plus back carried) }
+{
+    F::add(there, F::add(back, carried))
 }

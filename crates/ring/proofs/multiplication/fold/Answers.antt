@@ -1,4 +1,4 @@
-use Rattle.std.proofs.Common.{ℕ, ◌+◌, length, refl, ap, ◌∙◌, arith, below_more}
+use Rattle.std.proofs.Common.{ℕ, ◌+◌, length, ap, ◌∙◌, arith, below_more}
 use Rattle.std.proofs.lemmas.List.{get_or-set_same, get_or-set_other}
 use Rattle.field.specs.Meaning.{coded}
 use Rattle.field.specs.Convolution.{at}
@@ -19,8 +19,7 @@ loop-k-preserved g c =
           below_more _ _
           (λ j h. get_or-set_other c.loop-k.out k j _ 0 (omega arith) ∙ c.loop-k.invariant.folded j h)
           (get_or-set_same c.loop-k.out k _ 0 (omega arith)
-          ∙ c.add-in-loop-k.ensures
-          ∙ ap (O.plus _) c.add.ensures
+          ∙ c.folded.ensures
           ∙ fold_at_carried (coded_ring g.met.F.Field.lawful) p (at O c.args.plain.now) k c.loop-k.carried c.loop-k.invariant.first c.loop-k.invariant.later);
       first = λ e. absurd (omega (arith, e));
       later = λ i e. ap (λ n. at O c.args.plain.now (p + n)) (omega (arith, e));
