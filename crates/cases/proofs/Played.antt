@@ -4,12 +4,9 @@ use Rattle.std.proofs.Common.{◌≡◌, ℕ, List, [], ◌∷◌, ◌++◌, len
 use Rattle.std.proofs.lemmas.List.{take_all, drop_all, length-take}
 use Rattle.traylaw.specs.Calculus.{Calculus}
 use Rattle.traylaw.specs.Sheets.{room}
-use Rattle.traylaw.specs.Effects.{Phase, Phase.Closed, Phase.Burnt}
+use Rattle.traylaw.specs.Effects.{Phase}
 use Rattle.traylaw.specs.Runs.{Event, Tray, effect, laid, Step, Run, Run.opened, Run.then}
 use Rattle.cases.specs.Trays.{AnswersFrom, Answers, onto}
-
-pub closed_burnt : Closed ≡ Burnt → ⊥
-closed_burnt e = let z : ◌≡◌ {A = ℕ} 0 1 = cc in omega arith
 
 module _ (K : Calculus) (capacity : ℕ) where
   abbrev pub tray_at : Phase → ℕ → List ℕ → Tray

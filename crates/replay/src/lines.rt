@@ -1,11 +1,12 @@
 //! What the lines of the input say.
 
-ghost use Rattle.std.specs.Prelude.{◌≡◌, ◌<◌, ◌≤◌, map, IfOk, MatchResult, ◌≢◌};
+ghost use Rattle.std.specs.Prelude.{◌≡◌, ◌<◌, ◌≤◌, map, IfOk, MatchResult, ◌≢◌, alloc_error};
 ghost use Rattle.std.specs.Str.Parse.{IsNumeral, digits_value};
 ghost use Rattle.replay.specs.Names.{name_of};
+ghost use Rattle.replay.specs.declared.lines.FieldName.{FieldName};
+ghost use Rattle.replay.specs.declared.lines.Unread.TheVariants.{NoMemory};
 
 use crate::numbers::read_number;
-use crate::pieces::words_of;
 use script::Call;
 use std::alloc::{AllocError, AllocFailed, Global};
 
@@ -13,7 +14,7 @@ use std::alloc::{AllocError, AllocFailed, Global};
 const GREATEST_LENGTH: usize = 1_000_000;
 
 /// The greatest number that a list can hold.
-const GREATEST_NUMBER: usize = 65_535;
+const GREATEST_NUMBER: usize = u16::MAX as usize;
 
 /// A field that a tray can be over.
 #[derive(Clone, Copy)]
@@ -21,6 +22,21 @@ pub(crate) enum FieldName {
     Z3,
     Z5,
     Z4591,
+}
+
+impl TryFrom<&[u8]> for FieldName {
+    type Error = Unread;
+
+    ghost try_from_gives = { λ word r. MatchResult r (λ field. word.now ≡ name_of field) (λ _. (field : FieldName) → word.now ≢ name_of field) };
+
+    fn try_from(word: &[u8]) -> Result<FieldName, Unread> {
+        match word {
+            b"Z_3" => Ok(FieldName::Z3),
+            b"Z_5" => Ok(FieldName::Z5),
+            b"Z_4591" => Ok(FieldName::Z4591),
+            _ => Err(Unread::NotUnderstood),
+        }
+    }
 }
 
 /// What a tray is opened with besides its sheet.
@@ -40,41 +56,34 @@ pub(crate) enum Line {
     Call(Call),
     /// The tray is burnt.
     Burn,
-    /// Nothing that is understood.
-    NotUnderstood,
 }
 
 /// Why a line is not read.
 #[derive(Drop)]
-enum Unread {
+pub(crate) enum Unread {
     NotUnderstood,
     NoMemory(AllocError),
 }
 
 impl From<AllocError> for Unread {
+    ghost from_gives = { λ error unread. unread ≡ NoMemory error };
+
     fn from(error: AllocError) -> Unread {
         Unread::NoMemory(error)
     }
 }
 
 impl<T: Drop> From<AllocFailed<T>> for Unread {
+    ghost from_gives = { λ _ unread. unread ≡ NoMemory alloc_error };
+
     fn from(refused: AllocFailed<T>) -> Unread {
         Unread::NoMemory(refused.into())
     }
 }
 
-/// What a line says, if there is memory for it.
-pub(crate) fn read_line(heap: Global, text: &[u8]) -> Result<Line, AllocError> {
-    match understand(heap, text) {
-        Ok(line) => Ok(line),
-        Err(Unread::NotUnderstood) => Ok(Line::NotUnderstood),
-        Err(Unread::NoMemory(error)) => Err(error),
-    }
-}
-
-/// Reads a line by its words.
-fn understand(heap: Global, text: &[u8]) -> Result<Line, Unread> {
-    let words = words_of(heap, text)?;
+/// What a line says by its words, which stand before, between and after its spaces.
+pub(crate) fn read_line(heap: Global, text: &[u8]) -> Result<Line, Unread> {
+    let words: Vec<&[u8]> = text.split(|byte| *byte == b' ').collect(heap)?;
     match words.as_slice() {
         [b"tray", field, p, capacity, sheet @ ..] => Ok(Line::Tray {
             shape: read_shape(field, p, capacity)?,
@@ -97,45 +106,31 @@ fn understand(heap: Global, text: &[u8]) -> Result<Line, Unread> {
 /// Reads the words for a field, a degree and a capacity.
 fn read_shape(field: &[u8], p: &[u8], capacity: &[u8]) -> Result<Shape, Unread> {
     Ok(Shape {
-        field: read_field(field)?,
+        field: FieldName::try_from(field)?,
         p: read_up_to(p, usize::MAX)?,
         capacity: read_up_to(capacity, usize::MAX)?,
     })
 }
 
-/// Reads the name of a field.
-fn read_field(word: &[u8]) -> Result<FieldName, Unread>
-    ensures { MatchResult result (λ field. word.now ≡ name_of field) (λ _. (field : FieldName) → word.now ≢ name_of field) }
-{
-    match word {
-        b"Z_3" => Ok(FieldName::Z3),
-        b"Z_5" => Ok(FieldName::Z5),
-        b"Z_4591" => Ok(FieldName::Z4591),
-        _ => Err(Unread::NotUnderstood),
-    }
-}
-
 /// Reads the words of a put: a numerator, a slash and a denominator.
 fn read_put(heap: Global, words: &[&[u8]]) -> Result<Call, Unread> {
-    for (i, word) in words.iter().enumerate() {
-        if *word == b"/".as_slice() {
-            return Ok(Call::Put {
-                numerator: read_list(heap, &words[0..i])?,
-                denominator: read_list(heap, &words[i + 1..])?,
-            });
-        }
-    }
-    Err(Unread::NotUnderstood)
+    let slash = words
+        .iter()
+        .position(|word| *word == b"/".as_slice())
+        .ok_or(Unread::NotUnderstood)?;
+    Ok(Call::Put {
+        numerator: read_list(heap, &words[..slash])?,
+        denominator: read_list(heap, &words[slash + 1..])?,
+    })
 }
 
-/// Reads a number from each word.
+/// Reads a number from each word. It is a loop, since of a `try_collect` the search finds no equation for the whole list.
 fn read_list(heap: Global, words: &[&[u8]]) -> Result<Vec<u16>, Unread>
     ensures { IfOk result (λ list. list.items ≡ map (λ word. digits_value 10 word.now) words.now) }
 {
     let mut list = Vec::new(heap);
     for word in words {
-        let number = read_up_to(word, GREATEST_NUMBER)?;
-        list.push(number as u16)?;
+        list.push(read_up_to(word, GREATEST_NUMBER)? as u16)?;
     }
     Ok(list)
 }
@@ -151,8 +146,5 @@ fn read_length(word: &[u8]) -> Result<usize, Unread>
 fn read_up_to(word: &[u8], most: usize) -> Result<usize, Unread>
     ensures { MatchResult result (λ x. IsNumeral 10 word.now × (x ≡ digits_value 10 word.now) × (x ≤ most)) (λ _. IsNumeral 10 word.now → most < digits_value 10 word.now) }
 {
-    match read_number(word, most) {
-        Some(number) => Ok(number),
-        None => Err(Unread::NotUnderstood),
-    }
+    read_number(word, most).ok_or(Unread::NotUnderstood)
 }

@@ -17,15 +17,13 @@
 
 mod lines;
 mod numbers;
-mod pieces;
 mod replies;
 mod sessions;
 
-use lines::{Line, read_line};
-use pieces::lines_of;
-use sessions::{Session, open};
+use lines::{Line, Unread, read_line};
+use sessions::Session;
 use std::io;
-use std::io::Read;
+use std::io::{BufRead, BufReader};
 
 fn main(rt: HostRuntime) -> io::Result<()> {
     run(&rt)
@@ -33,11 +31,10 @@ fn main(rt: HostRuntime) -> io::Result<()> {
 
 /// Follows the input line by line, and performs the last script if no burn ended it.
 fn run(rt: &HostRuntime) -> io::Result<()> {
-    let mut text = Vec::new(rt.alloc());
-    rt.stdin().read_to_end(&mut text)?;
+    let input = BufReader::new(rt.alloc(), rt.stdin())?;
     let mut session = None;
-    for line in lines_of(rt.alloc(), text.as_slice())? {
-        session = follow(rt, session, line)?;
+    for text in input.split(rt.alloc(), b'\n') {
+        session = follow(rt, session, &text?)?;
     }
     if let Some(session) = session {
         session.perform(rt)?;
@@ -47,19 +44,23 @@ fn run(rt: &HostRuntime) -> io::Result<()> {
 
 /// Follows one line: it goes to the tray that is there, or is answered at once where there is none.
 fn follow(rt: &HostRuntime, session: Option<Session>, text: &[u8]) -> io::Result<Option<Session>> {
-    let line = read_line(rt.alloc(), text)?;
+    let line = match read_line(rt.alloc(), text) {
+        Ok(line) => Some(line),
+        Err(Unread::NotUnderstood) => None,
+        Err(Unread::NoMemory(error)) => return Err(error.into()),
+    };
     match session {
         Some(session) => session.follow(rt, line),
         None => begin(rt, line),
     }
 }
 
-/// Answers a line that is read while there is no tray.
-fn begin(rt: &HostRuntime, line: Line) -> io::Result<Option<Session>> {
+/// Answers a line that is read while there is no tray, where `None` is a line that is not understood.
+fn begin(rt: &HostRuntime, line: Option<Line>) -> io::Result<Option<Session>> {
     match line {
-        Line::Tray { shape, sheet } => return open(rt, shape, sheet),
-        Line::Call(_) | Line::Burn => println!(rt; "not allowed")?,
-        Line::NotUnderstood => println!(rt; "not understood")?,
+        Some(Line::Tray { shape, sheet }) => return Session::open(rt, shape, sheet),
+        Some(Line::Call(_) | Line::Burn) => println!(rt; "not allowed")?,
+        None => println!(rt; "not understood")?,
     }
     Ok(None)
 }

@@ -1,8 +1,8 @@
 //! How replies are written.
 
-use refusal::Refusal;
+use refusal::{Refusal, Report};
 use script::{Answer, Outcome};
-use std::{fmt, io};
+use std::fmt;
 
 /// The numbers of a list, each after a space.
 #[derive(Clone, Copy)]
@@ -17,32 +17,40 @@ impl fmt::Display for Numbers<'_> {
     }
 }
 
-/// Prints the refusal of a call, and the sheet after it.
-pub(crate) fn tell_refusal(rt: &HostRuntime, refusal: Refusal, sheet: &[u16]) -> io::Result<()> {
-    let report = refusal.report();
-    let number = report.number;
-    let entry = report.entry;
-    let steps = report.steps;
-    let sheet = Numbers(sheet);
-    match refusal {
-        Refusal::NoInverse { .. } => println!(rt;
-            "refused {number} entry {entry} steps {steps} |{sheet}"
-        ),
-        _ => println!(rt; "refused {number} entry {entry} |{sheet}"),
+/// What a refusal tells. The steps are told where there was an inversion.
+#[derive(Clone, Copy)]
+pub(crate) struct Refused(pub(crate) Refusal);
+
+impl fmt::Display for Refused {
+    fn fmt<W: fmt::Write>(&self, f: &mut fmt::Formatter<W>) -> fmt::Result {
+        let Report {
+            number,
+            entry,
+            steps,
+        } = Report::from(self.0);
+        write!(f, "refused {number} entry {entry}")?;
+        if let Refusal::NoInverse { .. } = self.0 {
+            write!(f, " steps {steps}")?;
+        }
+        Ok(())
     }
 }
 
-/// Prints what came of a call, and the sheet after it if the call was made.
-pub(crate) fn tell_answer(rt: &HostRuntime, answer: &Answer) -> io::Result<()> {
-    let sheet = Numbers(answer.sheet.as_slice());
-    match &answer.outcome {
-        Outcome::NotAllowed => println!(rt; "not allowed"),
-        Outcome::Refused(refusal) => tell_refusal(rt, *refusal, answer.sheet.as_slice()),
-        Outcome::Accepted => println!(rt; "accepted |{sheet}"),
-        Outcome::Closed { steps } => println!(rt; "accepted steps {steps} |{sheet}"),
-        Outcome::Drawn { quotient } => {
-            let quotient = Numbers(quotient.as_slice());
-            println!(rt; "accepted quotient{quotient} |{sheet}")
+/// The reply to a call: what came of it, and the sheet after it if the call was made.
+#[derive(Clone, Copy)]
+pub(crate) struct Reply<'a>(pub(crate) &'a Answer);
+
+impl fmt::Display for Reply<'_> {
+    fn fmt<W: fmt::Write>(&self, f: &mut fmt::Formatter<W>) -> fmt::Result {
+        let sheet = Numbers(&self.0.sheet);
+        match &self.0.outcome {
+            Outcome::NotAllowed => write!(f, "not allowed"),
+            Outcome::Refused(refusal) => write!(f, "{} |{sheet}", Refused(*refusal)),
+            Outcome::Accepted => write!(f, "accepted |{sheet}"),
+            Outcome::Closed { steps } => write!(f, "accepted steps {steps} |{sheet}"),
+            Outcome::Drawn { quotient } => {
+                write!(f, "accepted quotient{} |{sheet}", Numbers(quotient))
+            }
         }
     }
 }

@@ -1,7 +1,7 @@
 //! A tray that is there, with the lines that were read since it was opened.
 
 use crate::lines::{FieldName, Line, Shape};
-use crate::replies::{Numbers, tell_answer, tell_refusal};
+use crate::replies::{Numbers, Refused, Reply};
 use residues::{Z3, Z5, Z4591};
 use script::{Answer, Call, Replay, Stopped};
 use std::alloc::Global;
@@ -10,8 +10,8 @@ use std::io;
 /// What is to be replied to a line.
 #[derive(Clone, Copy)]
 enum Note {
-    /// What the call with this index answers.
-    Call(usize),
+    /// What the next of the calls answers.
+    Answer,
     NotAllowed,
     NotUnderstood,
 }
@@ -32,27 +32,7 @@ pub(crate) struct Burnt {
     sheet: Vec<u16>,
 }
 
-/// Opens a tray, or prints why it is refused.
-pub(crate) fn open(rt: &HostRuntime, shape: Shape, sheet: Vec<u16>) -> io::Result<Option<Session>> {
-    let calls = Vec::new(rt.alloc());
-    let notes = Vec::new(rt.alloc());
-    let mut copy = sheet.clone()?;
-    match replay(rt.alloc(), shape, calls.as_slice(), copy.as_mut_slice()) {
-        Ok(_) => Ok(Some(Session {
-            shape,
-            sheet,
-            calls,
-            notes,
-        })),
-        Err(Stopped::Refused(refusal)) => {
-            tell_refusal(rt, refusal, sheet.as_slice())?;
-            Ok(None)
-        }
-        Err(Stopped::NoMemory(error)) => Err(error.into()),
-    }
-}
-
-/// Performs a script over the field that its tray is over.
+/// Performs a script over the field that its tray is over: a type, which its name picks.
 fn replay(
     heap: Global,
     shape: Shape,
@@ -68,28 +48,55 @@ fn replay(
 }
 
 impl Session {
-    /// Follows one line: a burn ends the session, and any other line is noted.
-    pub(crate) fn follow(mut self, rt: &HostRuntime, line: Line) -> io::Result<Option<Session>> {
-        match line {
-            Line::Call(call) => {
-                self.notes.push(Note::Call(self.calls.len()))?;
-                self.calls.push(call)?;
+    /// Opens a tray, or prints why it is refused.
+    pub(crate) fn open(
+        rt: &HostRuntime,
+        shape: Shape,
+        sheet: Vec<u16>,
+    ) -> io::Result<Option<Session>> {
+        let mut copy = sheet.clone()?;
+        match replay(rt.alloc(), shape, &[], &mut copy) {
+            Ok(_) => Ok(Some(Session {
+                shape,
+                sheet,
+                calls: Vec::new(rt.alloc()),
+                notes: Vec::new(rt.alloc()),
+            })),
+            Err(Stopped::Refused(refusal)) => {
+                println!(rt; "{} |{}", Refused(refusal), Numbers(&sheet))?;
+                Ok(None)
             }
-            Line::Tray { .. } => self.notes.push(Note::NotAllowed)?,
-            Line::NotUnderstood => self.notes.push(Note::NotUnderstood)?,
-            Line::Burn => {
+            Err(Stopped::NoMemory(error)) => Err(error.into()),
+        }
+    }
+
+    /// Follows one line, where `None` is a line that is not understood: a burn ends the session, and any other line is
+    /// noted.
+    pub(crate) fn follow(
+        mut self,
+        rt: &HostRuntime,
+        line: Option<Line>,
+    ) -> io::Result<Option<Session>> {
+        let note = match line {
+            Some(Line::Call(call)) => {
+                self.calls.push(call)?;
+                Note::Answer
+            }
+            Some(Line::Tray { sheet: _sheet, .. }) => Note::NotAllowed,
+            Some(Line::Burn) => {
                 self.burn(rt)?;
                 return Ok(None);
             }
-        }
+            None => Note::NotUnderstood,
+        };
+        self.notes.push(note)?;
         Ok(Some(self))
     }
 
     /// Performs the script, and prints the reply to the burn too.
     fn burn(self, rt: &HostRuntime) -> io::Result<()> {
         let Burnt { left, sheet } = self.perform(rt)?;
-        let sheet = Numbers(sheet.as_slice());
-        println!(rt; "accepted left {left} |{sheet}")
+        println!(rt; "accepted left {left} |{}", Numbers(&sheet))
     }
 
     /// Performs the script, and prints the replies to the line that opened the tray and to those since.
@@ -100,30 +107,31 @@ impl Session {
             calls,
             notes,
         } = self;
-        match replay(rt.alloc(), shape, calls.as_slice(), sheet.as_mut_slice()) {
-            Ok(done) => {
-                let opened = Numbers(done.opened.as_slice());
-                println!(rt; "accepted |{opened}")?;
-                tell_notes(rt, notes.as_slice(), done.answers.as_slice())?;
-                let left = done.left;
-                Ok(Burnt { left, sheet })
-            }
-            Err(Stopped::Refused(_)) => Err(io::Error::other(
-                "an open was accepted and then refused",
-            )),
-            Err(Stopped::NoMemory(error)) => Err(error.into()),
-        }
+        let Replay {
+            opened,
+            answers,
+            left,
+        } = replay(rt.alloc(), shape, &calls, &mut sheet).map_err(|stopped| match stopped {
+            Stopped::Refused(_) => io::Error::other("an open was accepted and then refused"),
+            Stopped::NoMemory(error) => error.into(),
+        })?;
+        println!(rt; "accepted |{}", Numbers(&opened))?;
+        tell_notes(rt, &notes, &answers)?;
+        Ok(Burnt { left, sheet })
     }
 }
 
 /// Prints a reply for each note.
 fn tell_notes(rt: &HostRuntime, notes: &[Note], answers: &[Answer]) -> io::Result<()> {
+    let mut answers = answers.iter();
     for note in notes {
         match note {
-            Note::Call(index) => match answers.get(*index) {
-                Some(answer) => tell_answer(rt, answer)?,
-                None => return Err(io::Error::other("a call has no answer")),
-            },
+            Note::Answer => {
+                let answer = answers
+                    .next()
+                    .ok_or_else(|| io::Error::other("a call has no answer"))?;
+                rt.println(Reply(answer))?;
+            }
             Note::NotAllowed => println!(rt; "not allowed")?,
             Note::NotUnderstood => println!(rt; "not understood")?,
         }

@@ -1,7 +1,8 @@
 -- The calls of a script and their answers, in the words of the law of trays.
--- Main definitions: `call_of`, `event_of`, `tray_of`; `Turn`, what comes of one call.
-use Rattle.std.specs.Prelude.{◌≡◌, ℕ, ◌⊎◌, List, [], take, replicate, Some, None, vec_items, Option}
+-- Main definitions: `call_of`, `event_of`, `tray_of`; `Turn`, what comes of one call; `TurnOf`, that a call on a tray and its sheet is a turn.
+use Rattle.std.specs.Prelude.{◌≡◌, ℕ, ◌⊎◌, List, [], length, take, replicate, Some, None, IfOk, vec_items, Option, Result}
 use Rattle.std.specs.Option.{unwrap_or}
+use Rattle.std.specs.declared.alloc.AllocError.{AllocError}
 use Rattle.refusal.specs.declared.Refusal.{Refusal}
 use Rattle.traylaw.specs.Calculus.{Calculus}
 use Rattle.traylaw.specs.Sheets.{room}
@@ -11,8 +12,8 @@ use Rattle.script.specs.declared.scripts.Call.{Call}
 use Rattle.script.specs.declared.scripts.Call.TheVariants.{Put, TakeBack, Close, Draw}
 use Rattle.script.specs.declared.scripts.Outcome.{Outcome}
 use Rattle.script.specs.declared.scripts.Outcome.TheVariants.{NotAllowed, Refused, Accepted, Closed as ClosedIn, Drawn}
-use Rattle.script.specs.declared.scripts.State.{State}
-use Rattle.script.specs.declared.scripts.State.TheVariants.{Open, Closed}
+use Rattle.script.specs.declared.perform.State.{State}
+use Rattle.script.specs.declared.perform.State.TheVariants.{Open, Closed}
 
 -- the calls of the law
 abbrev pub a_put : List ℕ → List ℕ → TrayCall
@@ -94,3 +95,10 @@ pub record Skipped (was : Tray) (c : TrayCall) (o : Outcome) (now : Tray) : Type
 
 abbrev pub Turn : Calculus → ℕ → Tray → TrayCall → ℕ → Outcome → Tray → Type 0
 Turn K capacity was c lent o now = Made K capacity was c lent o now ⊎ Skipped was c o now
+
+-- A call on a tray of either state and the sheet that it is lent: what came of it is a turn over the calculus of the tray's degree, and the degree
+-- and the capacity stay. A call that there was no memory for came to nothing, and is no turn.
+pub record TurnOf (over : ℕ → Calculus) (was : State) (before : List ℕ) (c : TrayCall) (came : Result Outcome AllocError) (now : State) (after : List ℕ) : Type 0 where
+  pub turn : IfOk came (λ o. Turn (over (degree_of was)) (capacity_of was) (tray_of was before) c (length before) o (tray_of now after))
+  pub degree : degree_of now ≡ degree_of was
+  pub capacity : capacity_of now ≡ capacity_of was

@@ -1,6 +1,7 @@
 -- What comes of a whole script. Calls, answers and events are listed with the last first.
 -- Main definitions: `Replays`, `Replayed`.
 use Rattle.std.specs.Prelude.{◌≡◌, ℕ, ◌+◌, List, [], ◌∷◌, ◌++◌, reverse, take, Some, None, Ok, Err, vec_items, Option, Result}
+use Rattle.std.specs.declared.alloc.AllocError.{AllocError}
 use Rattle.refusal.specs.declared.Refusal.{Refusal}
 use Rattle.traylaw.specs.Calculus.{Calculus}
 use Rattle.traylaw.specs.Sheets.{room}
@@ -8,10 +9,11 @@ use Rattle.traylaw.specs.Runs.{Call.burn, Event, Tray, Opened, Run}
 use Rattle.traylaw.specs.Law.{Law, accepted, is_put, is_take_back, is_draw}
 use Rattle.script.specs.declared.scripts.Call.{Call}
 use Rattle.script.specs.declared.scripts.Answer.{Answer}
+use Rattle.script.specs.declared.scripts.Outcome.{Outcome}
 use Rattle.script.specs.declared.scripts.Replay.{Replay}
 use Rattle.script.specs.declared.scripts.Stopped.{Stopped}
 use Rattle.script.specs.declared.scripts.Stopped.TheVariants.{Refused, NoMemory}
-use Rattle.script.specs.Events.{call_of, event_of, Made, Skipped, Turn}
+use Rattle.script.specs.Events.{call_of, event_of, Made, Skipped}
 
 -- these calls of a script with these answers are these events, and lead from an open to this tray; each answer shows the sheet as the call left it
 pub data Replays (K : Calculus) (capacity lent : ℕ) : List Call → List Answer → List Event → Tray → Type 0 where
@@ -23,10 +25,10 @@ pub data Replays (K : Calculus) (capacity lent : ℕ) : List Call → List Answe
       Skipped was (call_of c) a.outcome now → take (room K.degree capacity) (vec_items a.sheet) ≡ now.used →
       Replays K capacity lent (c ∷ cs) (a ∷ bs) es now
 
--- one call more: its answer is noted after the others, and shows the sheet as the call left it
-pub record Noted (K : Calculus) (capacity : ℕ) (was : Tray) (c : Call) (lent : ℕ) (before after : List Answer) (sheet : List ℕ) (now : Tray) : Type 0 where
+-- one answer more is noted after the others: it tells what came of a call, and shows the sheet
+pub record Notes (came : Result Outcome AllocError) (sheet : List ℕ) (before after : List Answer) : Type 0 where
   pub answer : Answer
-  pub turn : Turn K capacity was (call_of c) lent answer.outcome now
+  pub told : came ≡ Ok answer.outcome
   pub shown : vec_items answer.sheet ≡ sheet
   pub noted : after ≡ before ++ answer ∷ []
 

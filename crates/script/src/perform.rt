@@ -1,40 +1,65 @@
 //! Performing one call of a script on a tray.
 
-ghost use Rattle.std.specs.Prelude.{◌≡◌, length, replicate, is_ok, IfOk, if◌then◌else◌, Some, None, vec_len, ◌≢◌};
-ghost use Rattle.std.specs.Result.{result_err};
+ghost use Rattle.std.specs.Prelude.{◌≡◌, replicate, Ok, IfOk, MatchResult, vec_len};
 ghost use Rattle.traylaw.specs.Calculus.{calculus};
-ghost use Rattle.script.specs.Events.{a_put, a_take_back, a_close, a_draw, refusal_in, steps_in, quotient_in, call_of, tray_of, degree_of, capacity_of, Turn};
+ghost use Rattle.traylaw.specs.Sheets.{clear_sheet};
+ghost use Rattle.script.specs.Events.{a_put, a_take_back, a_close, a_draw, call_of, tray_of, degree_of, capacity_of, TurnOf};
 
-use crate::scripts::{Call, Outcome, State};
+use crate::scripts::{Call, Outcome};
 use field::Field;
 use refusal::Refusal;
 use std::alloc::{AllocError, Global};
-use tray::{ClosedTray, OpenTray};
+use tray::{BurnOwed, Burns, ClosedTray, OpenTray};
 
-/// What came of a put or a take back.
-fn outcome_of(res: Result<(), Refusal>) -> Outcome
-    ensures refusal { refusal_in result ≡ result_err res }
-    ensures steps { steps_in result ≡ 0 }
-    ensures quotient { quotient_in result ≡ None }
-    ensures allowed { result ≢ Outcome.NotAllowed }
-{
-    match res {
-        Ok(()) => Outcome::Accepted,
-        Err(refusal) => Outcome::Refused(refusal),
+/// A tray in either state.
+pub(crate) enum State {
+    Open(OpenTray),
+    Closed(ClosedTray),
+}
+
+/// A tray as a call left it, and what came of the call, if there was memory for the lists that it is lent. The tray
+/// comes back without memory too, since a burn is owed for it, so no `?` ends a call.
+pub(crate) type Turned = (State, Result<Outcome, AllocError>);
+
+impl State {
+    /// Performs one call of a script.
+    pub(crate) fn perform<F: Field>(self, heap: Global, call: &Call, sheet: &mut [u16]) -> Turned
+        ensures { TurnOf (calculus F.Field.arithmetic F.Field.recip) self sheet.old (call_of call.now) result.1 result.0 sheet.new }
+    {
+        match (self, call) {
+            (
+                State::Open(tray),
+                Call::Put {
+                    numerator,
+                    denominator,
+                },
+            ) => put::<F>(tray, numerator, denominator, sheet),
+            (State::Open(tray), Call::TakeBack) => take_back::<F>(tray, sheet),
+            (State::Open(tray), Call::Close { scratch }) => close::<F>(heap, tray, *scratch, sheet),
+            (State::Closed(tray), Call::Draw { length, scratch }) => {
+                draw::<F>(heap, tray, *length, *scratch, sheet)
+            }
+            (state, _) => (state, Ok(Outcome::NotAllowed)),
+        }
+    }
+
+    /// Burns the tray.
+    pub(crate) fn burn(self, owed: BurnOwed, sheet: &mut [u16]) -> usize
+        ensures entries_left { result ≡ (tray_of self sheet.old).count }
+        ensures shelves_zero { sheet.new ≡ clear_sheet (degree_of self) (capacity_of self) sheet.old }
+    {
+        match self {
+            State::Open(tray) => tray.burn(owed, sheet),
+            State::Closed(tray) => tray.burn(owed, sheet),
+        }
     }
 }
 
-/// What came of a draw.
-fn drawn(res: Result<(), Refusal>, quotient: Vec<u16>) -> Outcome
-    ensures refusal { refusal_in result ≡ result_err res }
-    ensures steps { steps_in result ≡ 0 }
-    ensures quotient { quotient_in result ≡ (if is_ok res then Some quotient.items else None) }
-    ensures allowed { result ≢ Outcome.NotAllowed }
+/// What came of a call: its refusal, or else what is said where it is accepted.
+fn outcome_of(answer: Result<(), Refusal>, accepted: Outcome) -> Outcome
+    ensures { MatchResult answer (λ _. result ≡ accepted) (λ refusal. result ≡ Outcome.Refused refusal) }
 {
-    match res {
-        Ok(()) => Outcome::Drawn { quotient },
-        Err(refusal) => Outcome::Refused(refusal),
-    }
+    answer.map_or_else(Outcome::Refused, |()| accepted)
 }
 
 /// A put on an open tray.
@@ -43,174 +68,59 @@ fn put<F: Field>(
     numerator: &[u16],
     denominator: &[u16],
     sheet: &mut [u16],
-) -> (State, Outcome)
-    ensures turn { Turn (calculus F.Field.arithmetic F.Field.recip tray.p) tray.capacity (tray_of (State.Open tray) sheet.old) (a_put numerator.now denominator.now) (length sheet.old) result.1 (tray_of result.0 sheet.new) }
-    ensures degree { degree_of result.0 ≡ tray.p }
-    ensures capacity { capacity_of result.0 ≡ tray.capacity }
+) -> Turned
+    ensures { TurnOf (calculus F.Field.arithmetic F.Field.recip) (State.Open tray) sheet.old (a_put numerator.now denominator.now) result.1 result.0 sheet.new }
 {
-    let outcome = outcome_of(tray.put::<F>(sheet, numerator, denominator));
-    (State::Open(tray), outcome)
+    let answer = tray.put::<F>(sheet, numerator, denominator);
+    (State::Open(tray), Ok(outcome_of(answer, Outcome::Accepted)))
 }
 
 /// A take back on an open tray.
-fn take_back<F: Field>(mut tray: OpenTray, sheet: &mut [u16]) -> (State, Outcome)
-    ensures turn { Turn (calculus F.Field.arithmetic F.Field.recip tray.p) tray.capacity (tray_of (State.Open tray) sheet.old) (a_take_back) (length sheet.old) result.1 (tray_of result.0 sheet.new) }
-    ensures degree { degree_of result.0 ≡ tray.p }
-    ensures capacity { capacity_of result.0 ≡ tray.capacity }
+fn take_back<F: Field>(mut tray: OpenTray, sheet: &mut [u16]) -> Turned
+    ensures { TurnOf (calculus F.Field.arithmetic F.Field.recip) (State.Open tray) sheet.old a_take_back result.1 result.0 sheet.new }
 {
-    let outcome = outcome_of(tray.take_back(sheet));
-    (State::Open(tray), outcome)
+    let answer = tray.take_back(sheet);
+    (State::Open(tray), Ok(outcome_of(answer, Outcome::Accepted)))
 }
 
-/// A close of an open tray.
-fn close<F: Field>(tray: OpenTray, sheet: &mut [u16], scratch: &mut [u16]) -> (State, Outcome)
-    ensures turn { Turn (calculus F.Field.arithmetic F.Field.recip tray.p) tray.capacity (tray_of (State.Open tray) sheet.old) (a_close (length scratch.old)) (length sheet.old) result.1 (tray_of result.0 sheet.new) }
-    ensures degree { degree_of result.0 ≡ tray.p }
-    ensures capacity { capacity_of result.0 ≡ tray.capacity }
+/// A close of an open tray with a scratch of so many numbers.
+fn close<F: Field>(heap: Global, tray: OpenTray, room: usize, sheet: &mut [u16]) -> Turned
+    ensures { TurnOf (calculus F.Field.arithmetic F.Field.recip) (State.Open tray) sheet.old (a_close room) result.1 result.0 sheet.new }
 {
-    match tray.close::<F>(sheet, scratch) {
-        Ok(made) => {
-            let (closed, steps) = made;
-            (State::Closed(closed), Outcome::Closed { steps })
-        }
-        Err(back) => {
-            let (open, refusal) = back;
-            (State::Open(open), Outcome::Refused(refusal))
-        }
+    let mut scratch = match Vec::from_elem(heap, 0u16, room) {
+        Ok(scratch) => scratch,
+        Err(error) => return (State::Open(tray), Err(error)),
+    };
+    match tray.close::<F>(sheet, &mut scratch) {
+        Ok((closed, steps)) => (State::Closed(closed), Ok(Outcome::Closed { steps })),
+        Err((open, refusal)) => (State::Open(open), Ok(Outcome::Refused(refusal))),
     }
 }
 
-/// A draw from a closed tray, into `quotient`.
+/// A draw from a closed tray into an output of so many zeros, with a scratch of so many numbers.
 fn draw<F: Field>(
+    heap: Global,
     mut tray: ClosedTray,
-    mut quotient: Vec<u16>,
-    sheet: &mut [u16],
-    scratch: &mut [u16],
-) -> (State, Outcome)
-    ensures turn { Turn (calculus F.Field.arithmetic F.Field.recip tray.p) tray.capacity (tray_of (State.Closed tray) sheet.old) (a_draw quotient.items (length scratch.old)) (length sheet.old) result.1 (tray_of result.0 sheet.new) }
-    ensures degree { degree_of result.0 ≡ tray.p }
-    ensures capacity { capacity_of result.0 ≡ tray.capacity }
-{
-    let result = tray.draw::<F>(sheet, quotient.as_mut_slice(), scratch);
-    (State::Closed(tray), drawn(result, quotient))
-}
-
-/// A close of an open tray with a scratch of so many numbers, if there is memory for it.
-fn close_with<F: Field>(
-    heap: Global,
-    tray: OpenTray,
-    room: usize,
-    sheet: &mut [u16],
-) -> (State, Result<Outcome, AllocError>)
-    ensures turn { IfOk result.1 (λ o. Turn (calculus F.Field.arithmetic F.Field.recip tray.p) tray.capacity (tray_of (State.Open tray) sheet.old) (a_close room) (length sheet.old) o (tray_of result.0 sheet.new)) }
-    ensures degree { degree_of result.0 ≡ tray.p }
-    ensures capacity { capacity_of result.0 ≡ tray.capacity }
-{
-    match Vec::from_elem(heap, 0u16, room) {
-        Ok(mut scratch) => {
-            let (state, outcome) = close::<F>(tray, sheet, scratch.as_mut_slice());
-            (state, Ok(outcome))
-        }
-        Err(error) => (State::Open(tray), Err(error)),
-    }
-}
-
-/// A draw from a closed tray into an output of `length` zeros, with a scratch of so many numbers, if there is
-/// memory for them.
-fn draw_with<F: Field>(
-    heap: Global,
-    tray: ClosedTray,
     count: usize,
     room: usize,
     sheet: &mut [u16],
-) -> (State, Result<Outcome, AllocError>)
-    ensures turn { IfOk result.1 (λ o. Turn (calculus F.Field.arithmetic F.Field.recip tray.p) tray.capacity (tray_of (State.Closed tray) sheet.old) (a_draw (replicate count 0) room) (length sheet.old) o (tray_of result.0 sheet.new)) }
-    ensures degree { degree_of result.0 ≡ tray.p }
-    ensures capacity { capacity_of result.0 ≡ tray.capacity }
+) -> Turned
+    ensures { TurnOf (calculus F.Field.arithmetic F.Field.recip) (State.Closed tray) sheet.old (a_draw (replicate count 0) room) result.1 result.0 sheet.new }
 {
-    let (out, scratch) = match lists(heap, count, room) {
-        Ok(made) => made,
+    let (mut quotient, mut scratch) = match lists(heap, count, room) {
+        Ok(lists) => lists,
         Err(error) => return (State::Closed(tray), Err(error)),
     };
-    let mut scratch = scratch;
-    let (state, outcome) = draw::<F>(tray, out, sheet, scratch.as_mut_slice());
-    (state, Ok(outcome))
+    let answer = tray.draw::<F>(sheet, &mut quotient, &mut scratch);
+    let outcome = outcome_of(answer, Outcome::Drawn { quotient });
+    (State::Closed(tray), Ok(outcome))
 }
 
-/// A list of `a` zeros and a list of `b` numbers.
-fn lists(heap: Global, a: usize, b: usize) -> Result<(Vec<u16>, Vec<u16>), AllocError>
-    ensures { IfOk result (λ t. (t.0.items ≡ replicate a 0) × (vec_len t.1 ≡ b)) }
+/// A list of `count` zeros and a list of `room` numbers.
+fn lists(heap: Global, count: usize, room: usize) -> Result<(Vec<u16>, Vec<u16>), AllocError>
+    ensures { IfOk result (λ lists. (lists.0.items ≡ replicate count 0) × (vec_len lists.1 ≡ room)) }
 {
-    let first = Vec::from_elem(heap, 0u16, a)?;
-    let second = Vec::from_elem(heap, 0u16, b)?;
-    Ok((first, second))
-}
-
-/// One call on an open tray.
-fn on_open<F: Field>(
-    heap: Global,
-    tray: OpenTray,
-    call: &Call,
-    sheet: &mut [u16],
-) -> (State, Result<Outcome, AllocError>)
-    ensures turn { IfOk result.1 (λ o. Turn (calculus F.Field.arithmetic F.Field.recip tray.p) tray.capacity (tray_of (State.Open tray) sheet.old) (call_of call.now) (length sheet.old) o (tray_of result.0 sheet.new)) }
-    ensures degree { degree_of result.0 ≡ tray.p }
-    ensures capacity { capacity_of result.0 ≡ tray.capacity }
-{
-    match call {
-        Call::Put {
-            numerator,
-            denominator,
-        } => {
-            let (state, outcome) = put::<F>(
-                tray,
-                numerator.as_slice(),
-                denominator.as_slice(),
-                sheet,
-            );
-            (state, Ok(outcome))
-        }
-        Call::TakeBack => {
-            let (state, outcome) = take_back::<F>(tray, sheet);
-            (state, Ok(outcome))
-        }
-        Call::Close { scratch } => close_with::<F>(heap, tray, *scratch, sheet),
-        Call::Draw { .. } => (State::Open(tray), Ok(Outcome::NotAllowed)),
-    }
-}
-
-/// One call on a closed tray.
-fn on_closed<F: Field>(
-    heap: Global,
-    tray: ClosedTray,
-    call: &Call,
-    sheet: &mut [u16],
-) -> (State, Result<Outcome, AllocError>)
-    ensures turn { IfOk result.1 (λ o. Turn (calculus F.Field.arithmetic F.Field.recip tray.p) tray.capacity (tray_of (State.Closed tray) sheet.old) (call_of call.now) (length sheet.old) o (tray_of result.0 sheet.new)) }
-    ensures degree { degree_of result.0 ≡ tray.p }
-    ensures capacity { capacity_of result.0 ≡ tray.capacity }
-{
-    match call {
-        Call::Draw { length, scratch } => draw_with::<F>(heap, tray, *length, *scratch, sheet),
-        Call::Put { .. } | Call::TakeBack | Call::Close { .. } => {
-            (State::Closed(tray), Ok(Outcome::NotAllowed))
-        }
-    }
-}
-
-/// One call of a script.
-pub(crate) fn perform<F: Field>(
-    heap: Global,
-    state: State,
-    call: &Call,
-    sheet: &mut [u16],
-) -> (State, Result<Outcome, AllocError>)
-    ensures turn { IfOk result.1 (λ o. Turn (calculus F.Field.arithmetic F.Field.recip (degree_of state)) (capacity_of state) (tray_of (state) sheet.old) (call_of call.now) (length sheet.old) o (tray_of result.0 sheet.new)) }
-    ensures degree { degree_of result.0 ≡ degree_of state }
-    ensures capacity { capacity_of result.0 ≡ capacity_of state }
-{
-    match state {
-        State::Open(tray) => on_open::<F>(heap, tray, call, sheet),
-        State::Closed(tray) => on_closed::<F>(heap, tray, call, sheet),
-    }
+    let zeros = Vec::from_elem(heap, 0u16, count)?;
+    let numbers = Vec::from_elem(heap, 0u16, room)?;
+    Ok((zeros, numbers))
 }

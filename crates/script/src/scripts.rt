@@ -1,8 +1,10 @@
 //! The calls of a script, and what they answered.
 
+ghost use Rattle.std.specs.Prelude.{◌≡◌};
+ghost use Rattle.script.specs.declared.scripts.Stopped.TheVariants.{Refused, NoMemory};
+
 use refusal::Refusal;
 use std::alloc::AllocError;
-use tray::{ClosedTray, OpenTray};
 
 /// A call on a tray, with the lists that it is given, or the lengths of those that it is lent.
 #[derive(Drop)]
@@ -64,8 +66,18 @@ pub enum Stopped {
     NoMemory(AllocError),
 }
 
-/// A tray in either state.
-pub(crate) enum State {
-    Open(OpenTray),
-    Closed(ClosedTray),
+impl From<Refusal> for Stopped {
+    ghost from_gives = { λ refusal stopped. stopped ≡ Refused refusal };
+
+    fn from(refusal: Refusal) -> Stopped {
+        Stopped::Refused(refusal)
+    }
+}
+
+impl From<AllocError> for Stopped {
+    ghost from_gives = { λ error stopped. stopped ≡ NoMemory error };
+
+    fn from(error: AllocError) -> Stopped {
+        Stopped::NoMemory(error)
+    }
 }

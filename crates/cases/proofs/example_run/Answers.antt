@@ -1,5 +1,5 @@
 -- Each step is computed.
-use Rattle.std.proofs.Common.{refl}
+use Rattle.std.proofs.Common.{rules}
 use Rattle.field.specs.Meaning.{coded, all_codes}
 use Rattle.field.specs.Convolution.{tabulate}
 use Rattle.residues.specs.Residues.{last_below}
@@ -10,11 +10,11 @@ use Rattle.traylaw.specs.Sheets.{shelf, shelved}
 use Rattle.traylaw.specs.Effects.{product as product_of, coded_denominators, first_uninvertible, with_products, product_before, coded_before, put_before}
 use Rattle.cases.specs.Example.{over_five, forward}
 use Rattle.cases.specs.Trays.{any_sheet}
-use Rattle.cases.proofs.Played.{closed_burnt, played}
+use Rattle.cases.proofs.Played.{played}
 use Rattle.cases.proofs.example_run.Goals as goal
 
 pub returns : goal.returns
 unfolding coded all_codes tabulate last_below horner truncated zeros unit sum scaled times_x product divided inverse_of step steps shelf shelved product_of coded_denominators first_uninvertible with_products product_before coded_before put_before
 returns c =
-    let r = played over_five 2 any_sheet forward (refl, (refl, refl, refl, refl, refl, refl, (refl, refl, refl, refl, refl, refl, (refl, refl, refl, refl, refl, refl, (refl, refl, refl, refl, refl, refl, (refl, refl, refl, refl, refl, refl, (refl, refl, refl, refl, refl, refl, (refl, refl, refl, refl, refl, refl, (closed_burnt, refl, refl, refl, refl, refl, tt))))))))) in
+    let r = played over_five 2 any_sheet forward (search rules) in
     record { tray = r.0; run = r.1 }
