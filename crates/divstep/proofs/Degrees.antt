@@ -20,7 +20,7 @@ pub record Domain {C : Type 0} (O : Operations C) (nonzero : C → Bool) : Type 
 
 both : (x y : Bool) → cond x y false ≡ true → (x ≡ true) × (y ≡ true)
 both true y h = (refl, h)
-both false y h = absurd (let z : ◌≡◌ {A = ℕ} 0 1 = cc in omega arith)
+both false y h = absurd cc
 
 either : (x y : Bool) → cond x y false ≡ false → (x ≡ false) ⊎ (y ≡ false)
 either true y h = inr h

@@ -9,7 +9,7 @@ use Rattle.std.proofs.lemmas.Bool.{cases_lt}
 use Rattle.field.specs.Rings.{Operations, CommutativeRing, Normal}
 use Rattle.field.specs.Convolution.{tabulate, at, mixed}
 use Rattle.field.proofs.Sums.{zero_normal}
-use Rattle.field.proofs.Tables.{length_tabulate, get_d_tabulate, tabulate_is}
+use Rattle.field.proofs.Tables.{length_tabulate, get_d_tabulate, same_places}
 use Rattle.ring.specs.Polynomials.{unit_at}
 use Rattle.divstep.specs.Steps.{State, swapped, swaps, reduced, step, steps, shifted_at, lists, begins}
 use Rattle.divstep.proofs.Series.{series, mix_zeros}
@@ -38,7 +38,7 @@ module _ {C : Type 0} (O : Operations C) where
 
   -- lists of one length with the same coefficients
   pub alike : (a b : List C) → length a ≡ length b → at O a ≡ at O b → a ≡ b
-  alike a b h e = tabulate_is (length b) (at O b) a O.zero h (λ k l. ap (λ f. f k) e) ∙ sym (tabulate_is (length b) (at O b) b O.zero refl (λ k l. refl))
+  alike a b h e = same_places (length b) a b O.zero h refl (λ k l. ap (λ f. f k) e)
 
   -- a table of all the coefficients that are not zero
   pub at_tabulate : (n : ℕ) (a : ℕ → C) → ((k : ℕ) → n ≤ k → a k ≡ O.zero) → (k : ℕ) → at O (tabulate n a) k ≡ a k

@@ -25,10 +25,10 @@ use Rattle.divstep.proofs.Ends.{last, Found, ends_found, ends_divisor}
 
 not_zero_false : (a : ℕ) → not_zero a ≡ false → a ≡ 0
 not_zero_false zero h = refl
-not_zero_false (suc a) h = absurd (let z : ◌≡◌ {A = ℕ} 0 1 = cc in omega arith)
+not_zero_false (suc a) h = absurd cc
 
 not_zero_true : (a : ℕ) → not_zero a ≡ true → a ≢ 0
-not_zero_true zero h e = let z : ◌≡◌ {A = ℕ} 0 1 = cc in omega arith
+not_zero_true zero h e = cc
 not_zero_true (suc a) h e = omega arith
 
 module _ (A : Arithmetic) (laws : ArithmeticLaws A) (recip : ℕ → Option ℕ) (reciprocals : ReciprocalLaws A recip) where

@@ -1,1 +1,2 @@
 pub mod Jumps
+pub mod Made

@@ -1,21 +1,20 @@
 //! The matrix of a batch, applied to whole lists.
 
-ghost use Rattle.std.specs.Prelude.{◌≡◌, ◌+◌, ◌*◌, ◌≤◌, length};
+ghost use Rattle.std.specs.Prelude.{◌≡◌, ◌+◌, ◌≤◌, length, slice_index};
+ghost use Rattle.field.specs.Convolution.{tabulate};
 ghost use Rattle.field.specs.Meaning.{coded};
-ghost use Rattle.divstep.specs.Batches.{row_times, window as window_of};
+ghost use Rattle.divstep.specs.Batches.{row_times};
+ghost use Rattle.steps.specs.Columns.{IsColumn};
 
 use field::{Field, at};
-use window::Window;
+use std::array::from_fn;
+use window::{BATCH, Window};
 
 /// The first sixteen coefficients, where a missing one is 0.
-pub(crate) fn first_codes<F: Field>(a: &[u16]) -> [u16; 16]
-    ensures { result ≡ window_of (coded F.Field.arithmetic) a.now }
+pub(crate) fn first_codes(a: &[u16]) -> [u16; BATCH]
+    ensures { result ≡ tabulate 16 (λ k. slice_index a.now k) }
 {
-    let mut out = [0; 16];
-    for k in 0..16 {
-        out[k] = at(a, k);
-    }
-    out
+    from_fn(|k| at(a, k))
 }
 
 /// a·x + b·y without its first `skip` coefficients, in the place of y. Both products are made first.
@@ -39,46 +38,25 @@ fn row_times<F: Field>(
 }
 
 /// The matrix of w times the column (x, y), without its first `skip` coefficients, in the place of the
-/// column. Both rows read the old x, so the first waits in `row` for the second.
-fn apply_between<F: Field>(
-    w: Window,
-    skip: usize,
-    x: &mut [u16],
-    y: &mut [u16],
-    left: &mut [u16],
-    right: &mut [u16],
-    row: &mut [u16],
-)
-    requires long { length x.old ≡ length y.old }
-    requires left { length left.old ≡ length x.old + skip }
-    requires right { length right.old ≡ length x.old + skip }
-    requires row { length row.old ≡ length x.old }
-    ensures first { x.new ≡ row_times (coded F.Field.arithmetic) skip w.u w.v x.old y.old }
-    ensures second { y.new ≡ row_times (coded F.Field.arithmetic) skip w.q w.r x.old y.old }
-{
-    row.copy_from_slice(y);
-    row_times::<F>(skip, &w.u, &w.v, x, row, left, right);
-    row_times::<F>(skip, &w.q, &w.r, x, y, left, right);
-    x.copy_from_slice(row);
-}
-
-/// The same, worked out in the scratch.
+/// column. Both rows read the old x, so the first waits in the scratch for the second.
 pub(crate) fn apply<F: Field>(
-    w: Window,
+    w: &Window,
     skip: usize,
     x: &mut [u16],
     y: &mut [u16],
     scratch: &mut [u16],
 )
     requires skip { skip ≤ 16 }
-    requires small { length x.old ≤ 100000 }
-    requires long { length x.old ≡ length y.old }
-    requires room { 3 * (length x.old + 16) ≤ length scratch.old }
-    ensures first { x.new ≡ row_times (coded F.Field.arithmetic) skip w.u w.v x.old y.old }
-    ensures second { y.new ≡ row_times (coded F.Field.arithmetic) skip w.q w.r x.old y.old }
+    requires column { IsColumn x.old y.old scratch.old }
+    ensures first { x.new ≡ row_times (coded F.Field.arithmetic) skip w.now.u w.now.v x.old y.old }
+    ensures second { y.new ≡ row_times (coded F.Field.arithmetic) skip w.now.q w.now.r x.old y.old }
 {
     let n = x.len();
     let (left, rest) = scratch.split_at_mut(n + skip);
-    let (right, row) = rest.split_at_mut(n + skip);
-    apply_between::<F>(w, skip, x, y, left, right, &mut row[0..n]);
+    let (right, rest) = rest.split_at_mut(n + skip);
+    let row = &mut rest[..n];
+    row.copy_from_slice(y);
+    row_times::<F>(skip, &w.u, &w.v, x, row, left, right);
+    row_times::<F>(skip, &w.q, &w.r, x, y, left, right);
+    x.copy_from_slice(row);
 }

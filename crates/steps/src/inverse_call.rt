@@ -29,10 +29,8 @@ pub fn inverse<F: Field>(
     ensures refused_where_none { result_err result ≡ Some (NoInverse 0 (inversion_steps p)) → NoInverseOf F.Field.arithmetic p a.now }
 {
     let guard = Wipe { scratch };
-    ask_inversion::<F>(p, a, out.len(), guard.scratch.len())?;
+    let degree = ask_inversion::<F>(p, a, out.len(), guard.scratch.len())?;
     let steps = 2 * p as u32 - 1;
-    if !invert::<F>(p, a, out, guard.scratch) {
-        return Err(Refusal::NoInverse { entry: 0, steps });
-    }
+    invert::<F>(degree, a, out, guard.scratch).ok_or(Refusal::NoInverse { entry: 0, steps })?;
     Ok(steps)
 }

@@ -1,22 +1,22 @@
 //! The questions of the calls, in their order.
 
-ghost use Rattle.std.specs.Prelude.{◌≡◌, length, OnOk};
+ghost use Rattle.std.specs.Prelude.{◌≡◌, length, IfOk, OnOk};
 ghost use Rattle.std.specs.Result.{result_err};
 ghost use Rattle.refusal.specs.Questions.{first_no};
 ghost use Rattle.steps.specs.Asked.{steps_asked, StepsAllowed, inversion_asked};
 
 use field::{Field, all_codes};
 use refusal::Refusal;
-use ring::{GREATEST_DEGREE, LEAST_DEGREE};
+use ring::{Degree, GREATEST_DEGREE};
 
 /// The greatest count of steps, which is that of an inversion of the greatest degree.
-const MOST_STEPS: usize = 2553;
+const MOST_STEPS: usize = 2 * GREATEST_DEGREE - 1;
 
 /// The greatest degree difference, with either sign, that steps may begin with.
-const MOST_DELTA: i32 = 2553;
+const MOST_DELTA: u32 = MOST_STEPS as u32;
 
 /// The greatest length of f and g.
-const MOST_LENGTH: usize = 1278;
+const MOST_LENGTH: usize = GREATEST_DEGREE + 1;
 
 /// Asks for a steps call; u, v, q, r and scratch are lengths.
 pub(crate) fn ask_steps<F: Field>(
@@ -33,10 +33,10 @@ pub(crate) fn ask_steps<F: Field>(
     ensures asked { result_err result ≡ first_no (steps_asked F.Field.arithmetic.size delta n f.now g.now u v q r scratch) }
     ensures allowed { OnOk result (StepsAllowed F.Field.arithmetic.size delta n f.now g.now u v q r scratch) }
 {
-    if n > MOST_STEPS || delta < -MOST_DELTA || delta > MOST_DELTA {
-        return Err(Refusal::Range);
-    }
-    if f.len() < 1 || f.len() > MOST_LENGTH {
+    if n > MOST_STEPS
+        || delta.unsigned_abs() > MOST_DELTA
+        || !(1..=MOST_LENGTH).contains(&f.len())
+    {
         return Err(Refusal::Range);
     }
     if scratch < 16 * (f.len() + n) + 256 {
@@ -45,9 +45,7 @@ pub(crate) fn ask_steps<F: Field>(
     if g.len() != f.len() || u != n + 1 || v != n + 1 || q != n + 1 || r != n + 1 {
         return Err(Refusal::Length);
     }
-    let codes_f = all_codes::<F>(f);
-    let codes_g = all_codes::<F>(g);
-    if !codes_f || !codes_g {
+    if !(all_codes::<F>(f) & all_codes::<F>(g)) {
         return Err(Refusal::NotACode { entry: 0 });
     }
     Ok(())
@@ -59,12 +57,11 @@ pub(crate) fn ask_inversion<F: Field>(
     a: &[u16],
     out: usize,
     scratch: usize,
-) -> Result<(), Refusal>
-    ensures { result_err result ≡ first_no (inversion_asked F.Field.arithmetic.size p a.now out scratch) }
+) -> Result<Degree, Refusal>
+    ensures asked { result_err result ≡ first_no (inversion_asked F.Field.arithmetic.size p a.now out scratch) }
+    ensures degree { IfOk result (λ d. d ≡ p) }
 {
-    if p < LEAST_DEGREE || p > GREATEST_DEGREE {
-        return Err(Refusal::Degree);
-    }
+    let degree = Degree::try_from(p)?;
     if scratch < 32 * p + 256 {
         return Err(Refusal::Scratch);
     }
@@ -74,5 +71,5 @@ pub(crate) fn ask_inversion<F: Field>(
     if !all_codes::<F>(a) {
         return Err(Refusal::NotACode { entry: 0 });
     }
-    Ok(())
+    Ok(degree)
 }

@@ -11,101 +11,67 @@
 //! coefficients of that product are left out; and the matrix of the run is multiplied from the left by
 //! that of the batch. These are a few products of long lists, which the field has a fast kernel for.
 
-ghost use Rattle.std.specs.Prelude.{◌≡◌, ◌+◌, ◌*◌, ◌≤◌, length, unsigned_abs};
+ghost use Rattle.std.specs.Prelude.{◌≡◌, ◌+◌, ◌≤◌, unsigned_abs};
 ghost use Rattle.field.specs.Meaning.{coded};
-ghost use Rattle.divstep.specs.Batches.{window as window_of, applied, jump as jumped, batched};
-ghost use Rattle.divstep.specs.Steps.{lists, begins, steps, state_of, not_zero};
-ghost use Rattle.window.specs.Windows.{held_in};
+ghost use Rattle.divstep.specs.Batches.{jump as jumped, batched};
+ghost use Rattle.divstep.specs.Steps.{not_zero};
+ghost use Rattle.steps.specs.Columns.{IsColumn};
 
 use crate::apply::{apply, first_codes};
 use field::Field;
+use window::BATCH;
 use window::batch::batch;
-use window::{BATCH, Window};
 
-/// The first m steps on the windows of f and g.
-fn first_steps<F: Field>(delta: i32, m: usize, f: &[u16], g: &[u16]) -> Window
-    requires short { m ≤ 16 }
-    requires small { unsigned_abs delta ≤ 50000 }
-    ensures state { held_in result ≡ steps (lists (coded F.Field.arithmetic)) not_zero m (begins (coded F.Field.arithmetic) 16 delta (window_of (coded F.Field.arithmetic) f.now) (window_of (coded F.Field.arithmetic) g.now)) }
-    ensures small { unsigned_abs result.delta ≤ unsigned_abs delta + m }
-{
-    batch::<F>(delta, first_codes::<F>(f), first_codes::<F>(g), m)
+/// δ, f and g, the rows (u, v) and (q, r) of the matrix, and scratch for the products with a batch's matrix.
+#[derive(Drop)]
+pub(crate) struct Lists<'a> {
+    pub delta: i32,
+    pub f: &'a mut [u16],
+    pub g: &'a mut [u16],
+    pub u: &'a mut [u16],
+    pub v: &'a mut [u16],
+    pub q: &'a mut [u16],
+    pub r: &'a mut [u16],
+    pub scratch: &'a mut [u16],
+    ghost column: { IsColumn f.now g.now scratch.now },
+    ghost left: { IsColumn u.now q.now scratch.now },
+    ghost right: { IsColumn v.now r.now scratch.now },
 }
 
-/// The matrix of w times the column (f, g), without its first m coefficients, and times the matrix.
-fn apply_all<F: Field>(
-    w: Window,
-    m: usize,
-    f: &mut [u16],
-    g: &mut [u16],
-    u: &mut [u16],
-    v: &mut [u16],
-    q: &mut [u16],
-    r: &mut [u16],
-    scratch: &mut [u16],
-)
-    requires short { m ≤ 16 }
-    requires column { (length f.old ≡ length g.old) × ((length f.old ≤ 100000) × (3 * (length f.old + 16) ≤ length scratch.old)) }
-    requires left { (length u.old ≡ length q.old) × ((length u.old ≤ 100000) × (3 * (length u.old + 16) ≤ length scratch.old)) }
-    requires right { (length v.old ≡ length r.old) × ((length v.old ≤ 100000) × (3 * (length v.old + 16) ≤ length scratch.old)) }
-    ensures { state_of w.delta f.new g.new u.new v.new q.new r.new ≡ applied (coded F.Field.arithmetic) m (held_in w) (state_of w.delta f.old g.old u.old v.old q.old r.old) }
-{
-    apply::<F>(w, m, f, g, scratch);
-    apply::<F>(w, 0, u, q, scratch);
-    apply::<F>(w, 0, v, r, scratch);
-}
+impl Lists<'_> {
+    ghost use Rattle.steps.specs.Held.{state_in, SameSlices};
 
-/// Makes m steps, and returns δ after them.
-pub(crate) fn jump<F: Field>(
-    delta: i32,
-    m: usize,
-    f: &mut [u16],
-    g: &mut [u16],
-    u: &mut [u16],
-    v: &mut [u16],
-    q: &mut [u16],
-    r: &mut [u16],
-    scratch: &mut [u16],
-) -> i32
-    requires short { m ≤ 16 }
-    requires small { unsigned_abs delta ≤ 50000 }
-    requires column { (length f.old ≡ length g.old) × ((length f.old ≤ 100000) × (3 * (length f.old + 16) ≤ length scratch.old)) }
-    requires left { (length u.old ≡ length q.old) × ((length u.old ≤ 100000) × (3 * (length u.old + 16) ≤ length scratch.old)) }
-    requires right { (length v.old ≡ length r.old) × ((length v.old ≤ 100000) × (3 * (length v.old + 16) ≤ length scratch.old)) }
-    ensures state { state_of result f.new g.new u.new v.new q.new r.new ≡ jumped (coded F.Field.arithmetic) not_zero m (state_of delta f.old g.old u.old v.old q.old r.old) }
-    ensures small { unsigned_abs result ≤ unsigned_abs delta + m }
-{
-    let w = first_steps::<F>(delta, m, f, g);
-    apply_all::<F>(w, m, f, g, u, v, q, r, scratch);
-    w.delta
-}
-
-/// Makes n steps, and returns δ after them.
-pub(crate) fn run<F: Field>(
-    delta: i32,
-    n: usize,
-    f: &mut [u16],
-    g: &mut [u16],
-    u: &mut [u16],
-    v: &mut [u16],
-    q: &mut [u16],
-    r: &mut [u16],
-    scratch: &mut [u16],
-) -> i32
-    requires few { n ≤ 2553 }
-    requires small { unsigned_abs delta ≤ 2553 }
-    requires column { (length f.old ≡ length g.old) × ((length f.old ≤ 100000) × (3 * (length f.old + 16) ≤ length scratch.old)) }
-    requires left { (length u.old ≡ length q.old) × ((length u.old ≤ 100000) × (3 * (length u.old + 16) ≤ length scratch.old)) }
-    requires right { (length v.old ≡ length r.old) × ((length v.old ≤ 100000) × (3 * (length v.old + 16) ≤ length scratch.old)) }
-    ensures state { state_of result f.new g.new u.new v.new q.new r.new ≡ batched (coded F.Field.arithmetic) not_zero n (state_of delta f.old g.old u.old v.old q.old r.old) }
-    ensures small { unsigned_abs result ≤ unsigned_abs delta + n }
-{
-    let mut d = delta;
-    for _ in 0..n / BATCH {
-        d = jump::<F>(d, BATCH, f, g, u, v, q, r, scratch);
+    /// Makes m steps, as one batch.
+    fn jump<F: Field>(&mut self, m: usize)
+        requires short { m ≤ 16 }
+        requires small { unsigned_abs self.old.delta ≤ 50000 }
+        ensures state { state_in self.new ≡ jumped (coded F.Field.arithmetic) not_zero m (state_in self.old) }
+        ensures small { unsigned_abs self.new.delta ≤ unsigned_abs self.old.delta + m }
+        ensures same { SameSlices self.new self.old }
+    {
+        // Of a field's list nothing is known once it was lent to be read; of a variable's, it is.
+        let f = &mut *self.f;
+        let g = &mut *self.g;
+        let w = batch::<F>(self.delta, first_codes(f), first_codes(g), m);
+        self.delta = w.delta;
+        apply::<F>(&w, m, f, g, self.scratch);
+        apply::<F>(&w, 0, self.u, self.q, self.scratch);
+        apply::<F>(&w, 0, self.v, self.r, self.scratch);
     }
-    if n % BATCH > 0 {
-        d = jump::<F>(d, n % BATCH, f, g, u, v, q, r, scratch);
+
+    /// Makes n steps.
+    pub(crate) fn run<F: Field>(&mut self, n: usize)
+        requires few { n ≤ 2553 }
+        requires small { unsigned_abs self.old.delta ≤ 2553 }
+        ensures state { state_in self.new ≡ batched (coded F.Field.arithmetic) not_zero n (state_in self.old) }
+        ensures small { unsigned_abs self.new.delta ≤ unsigned_abs self.old.delta + n }
+        ensures same { SameSlices self.new self.old }
+    {
+        for _ in 0..n / BATCH {
+            self.jump::<F>(BATCH);
+        }
+        if n % BATCH > 0 {
+            self.jump::<F>(n % BATCH);
+        }
     }
-    d
 }

@@ -5,11 +5,11 @@ ghost use Rattle.std.specs.Result.{result_err};
 ghost use Rattle.refusal.specs.Questions.{first_no};
 ghost use Rattle.field.specs.Meaning.{coded};
 ghost use Rattle.divstep.specs.Steps.{after, not_zero, state_of};
-ghost use Rattle.steps.specs.Asked.{steps_asked, StepsAllowed};
+ghost use Rattle.steps.specs.Asked.{steps_asked};
 
 use crate::questions::ask_steps;
-use crate::run::run;
-use crate::starts::{set_one, set_zero};
+use crate::run::Lists;
+use crate::starts::set_one;
 use field::Field;
 use refusal::Refusal;
 use scratch::Wipe;
@@ -44,27 +44,20 @@ pub fn steps<F: Field>(
         r.len(),
         guard.scratch.len(),
     )?;
-    Ok(divide::<F>(delta, n, f, g, u, v, q, r, guard.scratch))
-}
-
-/// Makes n division steps from δ, f and g with the matrix 1, unasked.
-fn divide<F: Field>(
-    delta: i32,
-    n: usize,
-    f: &mut [u16],
-    g: &mut [u16],
-    u: &mut [u16],
-    v: &mut [u16],
-    q: &mut [u16],
-    r: &mut [u16],
-    scratch: &mut [u16],
-) -> i32
-    requires { StepsAllowed F.Field.arithmetic.size delta n f.old g.old (length u.old) (length v.old) (length q.old) (length r.old) (length scratch.old) }
-    ensures { state_of result f.new g.new u.new v.new q.new r.new ≡ after (coded F.Field.arithmetic) not_zero n delta f.old g.old }
-{
-    set_one::<F>(u);
-    set_zero::<F>(v);
-    set_zero::<F>(q);
-    set_one::<F>(r);
-    run::<F>(delta, n, f, g, u, v, q, r, scratch)
+    set_one(u);
+    v.fill(0);
+    q.fill(0);
+    set_one(r);
+    let mut lists = Lists {
+        delta,
+        f,
+        g,
+        u,
+        v,
+        q,
+        r,
+        scratch: guard.scratch,
+    };
+    lists.run::<F>(n);
+    Ok(lists.delta)
 }

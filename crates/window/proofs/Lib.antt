@@ -1,3 +1,3 @@
 pub mod Masks
-pub mod Filled
+pub mod Stepped
 pub mod Deltas

@@ -4,6 +4,7 @@
 
 mod arrays;
 pub mod batch;
+mod choice;
 mod window;
 
 pub use window::{BATCH, Window};

@@ -1,8 +1,6 @@
-use Rattle.std.proofs.Common.{arith}
-use Rattle.field.specs.Meaning.{coded}
-use Rattle.field.proofs.Tables.{tabulate_is}
+use Rattle.std.proofs.Common.{rules, get_or}
+use Rattle.steps.proofs.Made.{made_same}
 use Rattle.steps.proofs.apply.first_codes.Goals as goal
 
 pub returns : goal.returns
-unfolding coded
-returns g c = tabulate_is 16 _ c.loop-k.out 0 c.loop-k.invariant.0 (λ k h. c.loop-k.invariant.1 k (omega arith))
+returns c = made_same _ (λ k. get_or c.args.a.now k 0) _ (λ k x q e. search rules) 16 _ c.from_fn.ensures.items

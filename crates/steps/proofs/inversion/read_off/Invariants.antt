@@ -3,4 +3,4 @@ use Rattle.field.specs.Meaning.{coded}
 use Rattle.steps.proofs.inversion.read_off.Given as goal
 
 abbrev pub invariant-loop-k : goal.invariant-loop-k
-invariant-loop-k g l = (k : ℕ) → k < l.k → get_or l.out k 0 ≡ (coded g.F.Field.arithmetic).times (get_or l.v (l.p - k) 0) l.c
+invariant-loop-k g l = (j : ℕ) → j < l.k → get_or l.out j 0 ≡ (coded g.F.Field.arithmetic).times (get_or l.v (l.p - j) 0) l.c
