@@ -8,7 +8,7 @@ use ring::product;
 use std::alloc::{AllocError, Global};
 use std::time::Instant;
 use steps::inverse;
-use tray::{Burns, ClosedTray, OpenTray, open};
+use tray::{ClosedTray, OpenTray, open};
 
 /// The degree p of the fractions.
 const DEGREE: usize = 761;

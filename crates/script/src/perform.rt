@@ -9,7 +9,7 @@ use crate::scripts::{Call, Outcome};
 use field::Field;
 use refusal::Refusal;
 use std::alloc::{AllocError, Global};
-use tray::{BurnOwed, Burns, ClosedTray, OpenTray};
+use tray::{BurnOwed, ClosedTray, OpenTray};
 
 /// A tray in either state.
 pub(crate) enum State {

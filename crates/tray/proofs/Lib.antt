@@ -1,4 +1,5 @@
 mod Places
+mod Tests
 mod Closings
 mod Erasing
 mod Drawings

@@ -1,1 +1,3 @@
 pub mod Inverses
+pub mod Shelf
+pub mod Shelves

@@ -6,21 +6,17 @@ ghost use Rattle.refusal.specs.Questions.{first_no};
 ghost use Rattle.refusal.specs.declared.Refusal.TheVariants.{NoInverse};
 ghost use Rattle.traylaw.specs.Calculus.{calculus};
 ghost use Rattle.divstep.specs.ReadOff.{inversion_steps};
-ghost use Rattle.traylaw.specs.Sheets.{most_entries, room};
 ghost use Rattle.traylaw.specs.Effects.{refusal_of, granted, coded_denominators, first_uninvertible, inverse_asked, inversion_asked, close_sheet, after_close};
-ghost use Rattle.tray.specs.Inverses.{Blank};
+ghost use Rattle.tray.specs.Inverses.{Blank, FitsInversion};
+ghost use Rattle.tray.specs.Shelves.{KeepsCut};
 
-use crate::closing::{
-    blank_products, coded_denominators, erase_products, first_uninvertible, multiply_denominators,
-    write_products,
-};
-use crate::polynomials::invert;
-use crate::shelves::put_on;
-use crate::trays::{ClosedTray, OpenTray};
+use crate::shelves::{Shelf, Shelves, ask_sheet};
+use crate::trays::{ClosedTray, OpenTray, Tray};
 use field::Field;
 use refusal::Refusal;
 use ring::GREATEST_DEGREE;
 use scratch::Wipe;
+use std::marker::PhantomData;
 
 impl OpenTray {
     /// Closes the tray with one inversion and reports its 2p − 1 division steps. A tray that cannot be closed
@@ -37,168 +33,117 @@ impl OpenTray {
         ensures entries_stay { MatchResult result (λ t. (t.0.p ≡ self.p) × (t.0.capacity ≡ self.capacity) × (t.0.count ≡ self.count)) (λ t. t.0 ≡ self) }
     {
         let guard = Wipe { scratch };
-        match close_on::<F>(self.p, self.capacity, self.count, sheet, guard.scratch) {
+        match self.close_on::<F>(sheet, guard.scratch) {
             Ok(steps) => {
-                let OpenTray { p, capacity, count } = self;
-                Ok((ClosedTray { p, capacity, count }, steps))
+                let Tray {
+                    p,
+                    capacity,
+                    count,
+                    state: _,
+                } = self;
+                let closed = Tray {
+                    p,
+                    capacity,
+                    count,
+                    state: PhantomData,
+                };
+                Ok((closed, steps))
             }
             Err(refusal) => Err((self, refusal)),
         }
     }
-}
 
-/// Closes a tray on its sheet.
-fn close_on<F: Field>(
-    p: usize,
-    capacity: usize,
-    count: usize,
-    sheet: &mut [u16],
-    scratch: &mut [u16],
-) -> Result<u32, Refusal>
-    requires least { 2 ≤ p }
-    requires most { p ≤ 1277 }
-    requires few { capacity ≤ most_entries }
-    requires within { count ≤ capacity }
-    ensures refused_as_asked { result_err result ≡ (after_close (calculus F.Field.arithmetic F.Field.recip p) capacity count sheet.old (length scratch.old)).refusal }
-    ensures sheet_holds_products { sheet.new ≡ (after_close (calculus F.Field.arithmetic F.Field.recip p) capacity count sheet.old (length scratch.old)).sheet }
-    ensures steps_reported { IfOk result (λ n. n ≡ (after_close (calculus F.Field.arithmetic F.Field.recip p) capacity count sheet.old (length scratch.old)).report) }
-{
-    ask_close::<F>(p, capacity, count, sheet, scratch.len())?;
-    if blank_products(sheet, p, capacity, count - 1) {
-        close_blank::<F>(p, capacity, count, sheet, scratch)
-    } else {
-        close_written::<F>(p, capacity, count, sheet, scratch)
+    /// Closes the tray on its sheet, and reports the steps.
+    fn close_on<F: Field>(&self, sheet: &mut [u16], scratch: &mut [u16]) -> Result<u32, Refusal>
+        ensures refused_as_asked { result_err result ≡ (after_close (calculus F.Field.arithmetic F.Field.recip self.now.p) self.now.capacity self.now.count sheet.old (length scratch.old)).refusal }
+        ensures sheet_holds_products { sheet.new ≡ (after_close (calculus F.Field.arithmetic F.Field.recip self.now.p) self.now.capacity self.now.count sheet.old (length scratch.old)).sheet }
+        ensures steps_reported { IfOk result (λ n. n ≡ (after_close (calculus F.Field.arithmetic F.Field.recip self.now.p) self.now.capacity self.now.count sheet.old (length scratch.old)).report) }
+    {
+        ask_sheet(self.p, self.capacity, sheet)?;
+        let mut shelves = self.shelves(sheet);
+        shelves.ask_close::<F>(self.count, scratch)?;
+        if shelves.blank_products(self.count - 1) {
+            shelves.close_blank::<F>(self.count, scratch)
+        } else {
+            shelves.close_written::<F>(self.count, scratch)
+        }
     }
 }
 
-/// Closes a tray whose product shelves are blank.
-fn close_blank<F: Field>(
-    p: usize,
-    capacity: usize,
-    count: usize,
-    sheet: &mut [u16],
-    scratch: &mut [u16],
-) -> Result<u32, Refusal>
-    requires least { 2 ≤ p }
-    requires most { p ≤ 1277 }
-    requires few { capacity ≤ most_entries }
-    requires some { 1 ≤ count }
-    requires within { count ≤ capacity }
-    requires long { room p capacity ≤ length sheet.old }
-    requires long_scratch { 32 * p + 256 ≤ length scratch.old }
-    requires codes_denominators { coded_denominators (calculus F.Field.arithmetic F.Field.recip p) count sheet.old ≡ true }
-    requires blank { Blank p sheet.old (count - 1) }
-    ensures refused_where_none { result_err result ≡ inverse_asked (calculus F.Field.arithmetic F.Field.recip p) count sheet.old }
-    ensures sheet_holds_products { sheet.new ≡ granted (inverse_asked (calculus F.Field.arithmetic F.Field.recip p) count sheet.old) (close_sheet (calculus F.Field.arithmetic F.Field.recip p) count sheet.old) sheet.old }
-    ensures steps_reported { IfOk result (λ n. n ≡ inversion_steps p) }
-{
-    let mut whole_room = [0u16; GREATEST_DEGREE];
-    let whole = &mut whole_room[0..p];
-    write_products::<F>(sheet, p, capacity, count - 1, whole);
-    let mut inverse_room = [0u16; GREATEST_DEGREE];
-    let inverse = &mut inverse_room[0..p];
-    if invert::<F>(p, whole, inverse, scratch) {
-        put_on(sheet, p, capacity, 3 * (count - 1) + 2, inverse);
-        return Ok(inversion_steps(p));
+impl Shelves<'_> {
+    /// Closes a tray whose product shelves are blank.
+    fn close_blank<F: Field>(&mut self, count: usize, scratch: &mut [u16]) -> Result<u32, Refusal>
+        requires some { 1 ≤ count }
+        requires within { count ≤ self.old.capacity }
+        requires long_scratch { FitsInversion self.old.p scratch.old }
+        requires codes_denominators { coded_denominators (calculus F.Field.arithmetic F.Field.recip self.old.p) count self.old.sheet.now ≡ true }
+        requires blank { Blank self.old.p self.old.sheet.now (count - 1) }
+        ensures cut { KeepsCut self.old self.new }
+        ensures refused_where_none { result_err result ≡ inverse_asked (calculus F.Field.arithmetic F.Field.recip self.old.p) count self.old.sheet.now }
+        ensures sheet_holds_products { self.new.sheet.now ≡ granted (inverse_asked (calculus F.Field.arithmetic F.Field.recip self.old.p) count self.old.sheet.now) (close_sheet (calculus F.Field.arithmetic F.Field.recip self.old.p) count self.old.sheet.now) self.old.sheet.now }
+        ensures steps_reported { IfOk result (λ n. n ≡ inversion_steps self.old.p) }
+    {
+        let mut room = [0u16; GREATEST_DEGREE];
+        let whole = &mut room[..self.p];
+        self.write_products::<F>(count - 1, whole);
+        let Some(inverse) = self.invert::<F>(whole, scratch) else {
+            self.erase_products::<F>(count - 1);
+            return Err(self.name_uninvertible::<F>(count, scratch));
+        };
+        self.put_on(Shelf::Product(count - 1), &inverse[..self.p]);
+        Ok(self.inversion_steps())
     }
-    erase_products::<F>(sheet, p, capacity, count - 1);
-    Err(name_uninvertible::<F>(p, capacity, count, sheet, scratch))
-}
 
-/// Closes a tray to whose product shelves other code has written.
-fn close_written<F: Field>(
-    p: usize,
-    capacity: usize,
-    count: usize,
-    sheet: &mut [u16],
-    scratch: &mut [u16],
-) -> Result<u32, Refusal>
-    requires least { 2 ≤ p }
-    requires most { p ≤ 1277 }
-    requires few { capacity ≤ most_entries }
-    requires some { 1 ≤ count }
-    requires within { count ≤ capacity }
-    requires long { room p capacity ≤ length sheet.old }
-    requires long_scratch { 32 * p + 256 ≤ length scratch.old }
-    requires codes_denominators { coded_denominators (calculus F.Field.arithmetic F.Field.recip p) count sheet.old ≡ true }
-    ensures refused_where_none { result_err result ≡ inverse_asked (calculus F.Field.arithmetic F.Field.recip p) count sheet.old }
-    ensures sheet_holds_products { sheet.new ≡ granted (inverse_asked (calculus F.Field.arithmetic F.Field.recip p) count sheet.old) (close_sheet (calculus F.Field.arithmetic F.Field.recip p) count sheet.old) sheet.old }
-    ensures steps_reported { IfOk result (λ n. n ≡ inversion_steps p) }
-{
-    let mut whole_room = [0u16; GREATEST_DEGREE];
-    let whole = &mut whole_room[0..p];
-    multiply_denominators::<F>(sheet, p, capacity, count, whole);
-    let mut inverse_room = [0u16; GREATEST_DEGREE];
-    let inverse = &mut inverse_room[0..p];
-    if !invert::<F>(p, whole, inverse, scratch) {
-        return Err(name_uninvertible::<F>(p, capacity, count, sheet, scratch));
+    /// Closes a tray to whose product shelves other code has written.
+    fn close_written<F: Field>(&mut self, count: usize, scratch: &mut [u16]) -> Result<u32, Refusal>
+        requires some { 1 ≤ count }
+        requires within { count ≤ self.old.capacity }
+        requires long_scratch { FitsInversion self.old.p scratch.old }
+        requires codes_denominators { coded_denominators (calculus F.Field.arithmetic F.Field.recip self.old.p) count self.old.sheet.now ≡ true }
+        ensures cut { KeepsCut self.old self.new }
+        ensures refused_where_none { result_err result ≡ inverse_asked (calculus F.Field.arithmetic F.Field.recip self.old.p) count self.old.sheet.now }
+        ensures sheet_holds_products { self.new.sheet.now ≡ granted (inverse_asked (calculus F.Field.arithmetic F.Field.recip self.old.p) count self.old.sheet.now) (close_sheet (calculus F.Field.arithmetic F.Field.recip self.old.p) count self.old.sheet.now) self.old.sheet.now }
+        ensures steps_reported { IfOk result (λ n. n ≡ inversion_steps self.old.p) }
+    {
+        let mut room = [0u16; GREATEST_DEGREE];
+        let whole = &mut room[..self.p];
+        self.multiply_denominators::<F>(count, whole);
+        let Some(inverse) = self.invert::<F>(whole, scratch) else {
+            return Err(self.name_uninvertible::<F>(count, scratch));
+        };
+        self.write_products::<F>(count - 1, whole);
+        self.put_on(Shelf::Product(count - 1), &inverse[..self.p]);
+        Ok(self.inversion_steps())
     }
-    write_products::<F>(sheet, p, capacity, count - 1, whole);
-    put_on(sheet, p, capacity, 3 * (count - 1) + 2, inverse);
-    Ok(inversion_steps(p))
-}
 
-/// Asks for a close, all but whether there is an inverse; scratch is a length.
-fn ask_close<F: Field>(
-    p: usize,
-    capacity: usize,
-    count: usize,
-    sheet: &[u16],
-    scratch: usize,
-) -> Result<(), Refusal>
-    requires most { p ≤ 1277 }
-    requires few { capacity ≤ most_entries }
-    requires within { count ≤ capacity }
-    ensures { result_err result ≡ first_no (inversion_asked (calculus F.Field.arithmetic F.Field.recip p) capacity count sheet.now scratch) }
-{
-    if sheet.len() < 3 * p * capacity {
-        return Err(Refusal::Sheet);
+    /// Asks for a close, all but whether the sheet is long enough and whether there is an inverse.
+    fn ask_close<F: Field>(&self, count: usize, scratch: &[u16]) -> Result<(), Refusal>
+        requires { count ≤ self.now.capacity }
+        ensures { result_err result ≡ first_no (inversion_asked (calculus F.Field.arithmetic F.Field.recip self.now.p) self.now.capacity count self.now.sheet.now (length scratch.now)) }
+    {
+        self.ask_scratch(scratch)?;
+        if count == 0 {
+            return Err(Refusal::NoEntry);
+        }
+        if !self.coded_denominators::<F>(count) {
+            return Err(Refusal::Shelf);
+        }
+        Ok(())
     }
-    if scratch < 32 * p + 256 {
-        return Err(Refusal::Scratch);
-    }
-    if count == 0 {
-        return Err(Refusal::NoEntry);
-    }
-    if !coded_denominators::<F>(sheet, p, capacity, count) {
-        return Err(Refusal::Shelf);
-    }
-    Ok(())
-}
 
-/// The refusal of a close: the first entry whose denominator has no inverse, and the steps of the inversions of the
-/// product and of the denominators up to that entry.
-fn name_uninvertible<F: Field>(
-    p: usize,
-    capacity: usize,
-    count: usize,
-    sheet: &[u16],
-    scratch: &mut [u16],
-) -> Refusal
-    requires least { 2 ≤ p }
-    requires most { p ≤ 1277 }
-    requires few { capacity ≤ most_entries }
-    requires within { count ≤ capacity }
-    requires long { room p capacity ≤ length sheet.now }
-    requires long_scratch { 32 * p + 256 ≤ length scratch.old }
-    requires codes_denominators { coded_denominators (calculus F.Field.arithmetic F.Field.recip p) count sheet.now ≡ true }
-    ensures { result ≡ NoInverse (first_uninvertible (calculus F.Field.arithmetic F.Field.recip p) count sheet.now) (inversion_steps p * (first_uninvertible (calculus F.Field.arithmetic F.Field.recip p) count sheet.now + 1)) }
-{
-    let named = match first_uninvertible::<F>(sheet, p, capacity, count, scratch) {
-        Some(i) => i as u32 + 1,
-        None => 0,
-    };
-    Refusal::NoInverse {
-        entry: named,
-        steps: inversion_steps(p) * (named + 1),
+    /// The refusal of a close: the first entry whose denominator has no inverse, and the steps of the inversions of the
+    /// product and of the denominators up to that entry.
+    fn name_uninvertible<F: Field>(&self, count: usize, scratch: &mut [u16]) -> Refusal
+        requires within { count ≤ self.now.capacity }
+        requires long_scratch { FitsInversion self.now.p scratch.old }
+        requires codes_denominators { coded_denominators (calculus F.Field.arithmetic F.Field.recip self.now.p) count self.now.sheet.now ≡ true }
+        ensures { result ≡ NoInverse (first_uninvertible (calculus F.Field.arithmetic F.Field.recip self.now.p) count self.now.sheet.now) (inversion_steps self.now.p * (first_uninvertible (calculus F.Field.arithmetic F.Field.recip self.now.p) count self.now.sheet.now + 1)) }
+    {
+        let first = self.first_uninvertible::<F>(count, scratch);
+        let entry = first.map_or(0, |i| i as u32 + 1);
+        Refusal::NoInverse {
+            entry,
+            steps: self.inversion_steps() * (entry + 1),
+        }
     }
-}
-
-/// How many division steps an inversion makes.
-fn inversion_steps(p: usize) -> u32
-    requires least { 2 ≤ p }
-    requires most { p ≤ 1277 }
-    ensures { result ≡ inversion_steps p }
-{
-    2 * p as u32 - 1
 }

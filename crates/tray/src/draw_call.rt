@@ -5,7 +5,7 @@ ghost use Rattle.std.specs.Result.{result_err};
 ghost use Rattle.traylaw.specs.Calculus.{calculus};
 ghost use Rattle.traylaw.specs.Effects.{after_draw};
 
-use crate::drawing::{coded_last, draw_last};
+use crate::shelves::ask_sheet;
 use crate::trays::ClosedTray;
 use field::Field;
 use refusal::Refusal;
@@ -28,24 +28,20 @@ impl ClosedTray {
         ensures capacity_stays { self.new.capacity ≡ self.old.capacity }
     {
         let guard = Wipe { scratch };
-        let ClosedTray { p, capacity, count } = *self;
-        if sheet.len() < 3 * p * capacity {
-            return Err(Refusal::Sheet);
-        }
-        if guard.scratch.len() < 32 * p + 256 {
-            return Err(Refusal::Scratch);
-        }
-        if out.len() != p {
+        ask_sheet(self.p, self.capacity, sheet)?;
+        let mut shelves = self.shelves(sheet);
+        shelves.ask_scratch(guard.scratch)?;
+        if out.len() != self.p {
             return Err(Refusal::Length);
         }
-        if count == 0 {
+        if self.count == 0 {
             return Err(Refusal::NoEntry);
         }
-        if !coded_last::<F>(sheet, p, capacity, count - 1) {
+        if !shelves.coded_last::<F>(self.count - 1) {
             return Err(Refusal::Shelf);
         }
-        draw_last::<F>(sheet, p, capacity, count - 1, out, guard.scratch);
-        self.count = count - 1;
+        shelves.draw_last::<F>(self.count - 1, out, guard.scratch);
+        self.count -= 1;
         Ok(())
     }
 }

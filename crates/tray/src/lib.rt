@@ -19,7 +19,6 @@ mod shelves;
 mod take_back_call;
 mod trays;
 
-pub use burn_call::Burns;
 pub use open_call::open;
 pub use traylaw::theorems;
-pub use trays::{BurnOwed, ClosedTray, OpenTray};
+pub use trays::{BurnOwed, Closed, ClosedTray, Open, OpenTray, Tray};

@@ -4,10 +4,11 @@ ghost use Rattle.std.specs.Prelude.{◌≡◌, IfOk};
 ghost use Rattle.std.specs.Result.{result_err};
 ghost use Rattle.traylaw.specs.Effects.{after_open};
 
-use crate::shelves::clear;
-use crate::trays::{BurnOwed, OpenTray};
+use crate::shelves::ask_sheet;
+use crate::trays::{BurnOwed, OpenTray, Tray};
 use refusal::Refusal;
 use ring::{GREATEST_DEGREE, LEAST_DEGREE};
+use std::marker::PhantomData;
 
 /// The greatest capacity of a tray.
 pub const GREATEST_CAPACITY: usize = 64;
@@ -18,20 +19,19 @@ pub fn open(p: usize, capacity: usize, sheet: &mut [u16]) -> Result<(OpenTray, B
     ensures sheet_cleared { sheet.new ≡ (after_open p capacity sheet.old).sheet }
     ensures tray_empty { IfOk result (λ t. (t.0.p ≡ p) × (t.0.capacity ≡ capacity) × (t.0.count ≡ 0)) }
 {
-    if p < LEAST_DEGREE || p > GREATEST_DEGREE {
+    if !(LEAST_DEGREE..=GREATEST_DEGREE).contains(&p) {
         return Err(Refusal::Degree);
     }
-    if capacity < 1 || capacity > GREATEST_CAPACITY {
+    if !(1..=GREATEST_CAPACITY).contains(&capacity) {
         return Err(Refusal::Capacity);
     }
-    if sheet.len() < 3 * p * capacity {
-        return Err(Refusal::Sheet);
-    }
-    clear(sheet, p, capacity);
-    let tray = OpenTray {
+    ask_sheet(p, capacity, sheet)?;
+    let tray = Tray {
         p,
         capacity,
         count: 0,
+        state: PhantomData,
     };
+    tray.clear(sheet);
     Ok((tray, BurnOwed { seal: () }))
 }

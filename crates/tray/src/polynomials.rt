@@ -1,39 +1,61 @@
-//! Products and inverses of polynomials that have been asked about: of p codes each, with p a degree.
+//! Products and inverses of polynomials of the degree of a tray.
 
-ghost use Rattle.std.specs.Prelude.{◌≡◌, ◌+◌, ◌*◌, ◌≤◌, true, length, is_some};
-ghost use Rattle.std.specs.Option.{unwrap_or};
-ghost use Rattle.field.specs.Meaning.{all_codes};
-ghost use Rattle.traylaw.specs.Calculus.{calculus, times};
+ghost use Rattle.std.specs.Prelude.{◌≡◌, ◌+◌, ◌*◌, ◌≤◌, length, nat_le, take};
+ghost use Rattle.std.specs.Option.{option_map};
+ghost use Rattle.std.specs.Result.{result_err};
+ghost use Rattle.refusal.specs.declared.Refusal.TheVariants.{Scratch};
+ghost use Rattle.refusal.specs.Questions.{asked};
+ghost use Rattle.divstep.specs.ReadOff.{inversion_steps};
+ghost use Rattle.traylaw.specs.Calculus.{calculus, times, Polynomial};
+ghost use Rattle.tray.specs.Inverses.{FitsInversion};
 
+use crate::shelves::Shelves;
 use field::Field;
-use ring::product;
+use refusal::Refusal;
+use ring::{GREATEST_DEGREE, product};
 use steps::inverse;
 
-/// The product of a and b.
-pub(crate) fn multiply<F: Field>(p: usize, a: &[u16], b: &[u16], out: &mut [u16])
-    requires least { 2 ≤ p }
-    requires most { p ≤ 1277 }
-    requires long_a { length a.now ≡ p }
-    requires long_b { length b.now ≡ p }
-    requires long_out { length out.old ≡ p }
-    requires codes_a { all_codes F.Field.arithmetic.size a.now ≡ true }
-    requires codes_b { all_codes F.Field.arithmetic.size b.now ≡ true }
-    ensures multiplied { out.new ≡ times (calculus F.Field.arithmetic F.Field.recip p) a.now b.now }
-    ensures codes { all_codes F.Field.arithmetic.size out.new ≡ true }
-{
-    let _ = product::<F>(p, a, b, out);
-}
+impl Shelves<'_> {
+    /// Asks whether a scratch is long enough to invert a polynomial with.
+    pub(crate) fn ask_scratch(&self, scratch: &[u16]) -> Result<(), Refusal>
+        ensures { result_err result ≡ asked Scratch (nat_le (32 * self.now.p + 256) (length scratch.now)) }
+    {
+        if scratch.len() < 32 * self.p + 256 {
+            return Err(Refusal::Scratch);
+        }
+        Ok(())
+    }
 
-/// Whether a has an inverse, which is then written to `out`.
-pub(crate) fn invert<F: Field>(p: usize, a: &[u16], out: &mut [u16], scratch: &mut [u16]) -> bool
-    requires least { 2 ≤ p }
-    requires most { p ≤ 1277 }
-    requires long_a { length a.now ≡ p }
-    requires long_out { length out.old ≡ p }
-    requires room { 32 * p + 256 ≤ length scratch.old }
-    requires codes_a { all_codes F.Field.arithmetic.size a.now ≡ true }
-    ensures found { result ≡ is_some ((calculus F.Field.arithmetic F.Field.recip p).inverse a.now) }
-    ensures inverted { out.new ≡ unwrap_or ((calculus F.Field.arithmetic F.Field.recip p).inverse a.now) out.old }
-{
-    inverse::<F>(p, a, out, scratch).is_ok()
+    /// The product of a and b.
+    pub(crate) fn multiply<F: Field>(&self, a: &[u16], b: &[u16], out: &mut [u16])
+        requires a { Polynomial (calculus F.Field.arithmetic F.Field.recip self.now.p) a.now }
+        requires b { Polynomial (calculus F.Field.arithmetic F.Field.recip self.now.p) b.now }
+        requires long_out { length out.old ≡ self.now.p }
+        ensures multiplied { out.new ≡ times (calculus F.Field.arithmetic F.Field.recip self.now.p) a.now b.now }
+        ensures polynomial { Polynomial (calculus F.Field.arithmetic F.Field.recip self.now.p) out.new }
+    {
+        let _ = product::<F>(self.p, a, b, out);
+    }
+
+    /// The inverse of a in the first p places, if a has one.
+    pub(crate) fn invert<F: Field>(
+        &self,
+        a: &[u16],
+        scratch: &mut [u16],
+    ) -> Option<[u16; GREATEST_DEGREE]>
+        requires a { Polynomial (calculus F.Field.arithmetic F.Field.recip self.now.p) a.now }
+        requires long_scratch { FitsInversion self.now.p scratch.old }
+        ensures { option_map (take self.now.p) result ≡ (calculus F.Field.arithmetic F.Field.recip self.now.p).inverse a.now }
+    {
+        let mut out = [0u16; GREATEST_DEGREE];
+        inverse::<F>(self.p, a, &mut out[..self.p], scratch).ok()?;
+        Some(out)
+    }
+
+    /// How many division steps an inversion makes.
+    pub(crate) fn inversion_steps(&self) -> u32
+        ensures { result ≡ inversion_steps self.now.p }
+    {
+        2 * self.p as u32 - 1
+    }
 }

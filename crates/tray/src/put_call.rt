@@ -5,7 +5,7 @@ ghost use Rattle.std.specs.Result.{result_err};
 ghost use Rattle.traylaw.specs.Calculus.{calculus};
 ghost use Rattle.traylaw.specs.Effects.{after_put};
 
-use crate::shelves::put_entry;
+use crate::shelves::ask_sheet;
 use crate::trays::OpenTray;
 use field::{Field, all_codes};
 use refusal::Refusal;
@@ -24,21 +24,19 @@ impl OpenTray {
         ensures degree_stays { self.new.p ≡ self.old.p }
         ensures capacity_stays { self.new.capacity ≡ self.old.capacity }
     {
-        let OpenTray { p, capacity, count } = *self;
-        if sheet.len() < 3 * p * capacity {
-            return Err(Refusal::Sheet);
-        }
-        if numerator.len() != p || denominator.len() != p {
+        ask_sheet(self.p, self.capacity, sheet)?;
+        if numerator.len() != self.p || denominator.len() != self.p {
             return Err(Refusal::Length);
         }
         if !(all_codes::<F>(numerator) & all_codes::<F>(denominator)) {
             return Err(Refusal::NotACode { entry: 0 });
         }
-        if count >= capacity {
+        if self.count >= self.capacity {
             return Err(Refusal::Full);
         }
-        put_entry(sheet, p, capacity, count, numerator, denominator);
-        self.count = count + 1;
+        self.shelves(sheet)
+            .put_entry(self.count, numerator, denominator);
+        self.count += 1;
         Ok(())
     }
 }

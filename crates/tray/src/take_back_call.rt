@@ -4,7 +4,7 @@ ghost use Rattle.std.specs.Prelude.{◌≡◌};
 ghost use Rattle.std.specs.Result.{result_err};
 ghost use Rattle.traylaw.specs.Effects.{after_take_back};
 
-use crate::shelves::zero_entry;
+use crate::shelves::ask_sheet;
 use crate::trays::OpenTray;
 use refusal::Refusal;
 
@@ -17,15 +17,12 @@ impl OpenTray {
         ensures degree_stays { self.new.p ≡ self.old.p }
         ensures capacity_stays { self.new.capacity ≡ self.old.capacity }
     {
-        let OpenTray { p, capacity, count } = *self;
-        if sheet.len() < 3 * p * capacity {
-            return Err(Refusal::Sheet);
-        }
-        if count == 0 {
+        ask_sheet(self.p, self.capacity, sheet)?;
+        if self.count == 0 {
             return Err(Refusal::NoEntry);
         }
-        zero_entry(sheet, p, capacity, count - 1);
-        self.count = count - 1;
+        self.count -= 1;
+        self.shelves(sheet).zero_entry(self.count);
         Ok(())
     }
 }
