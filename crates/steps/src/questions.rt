@@ -42,7 +42,7 @@ pub(crate) fn ask_steps<F: Field>(
     if scratch < 16 * (f.len() + n) + 256 {
         return Err(Refusal::Scratch);
     }
-    if g.len() != f.len() || u != n + 1 || v != n + 1 || q != n + 1 || r != n + 1 {
+    if g.len() != f.len() || [u, v, q, r] != [n + 1; 4] {
         return Err(Refusal::Length);
     }
     if !(all_codes::<F>(f) & all_codes::<F>(g)) {
