@@ -3,77 +3,88 @@
 
 #![tactic(auto)]
 
+ghost use Rattle.std.specs.Prelude.{◌<◌};
+
 mod trays;
 
 use crate::trays::time_trays;
-use anyhow::anyhow;
+use anyhow::bail;
 use field::Field;
 use refusal::Refusal;
 use residues::{Z3, Z4591};
-use ring::product;
+use ring::{GREATEST_DEGREE, product};
+use samples::Generator;
+use std::mem;
+use std::rt::Clock;
 use std::time::Instant;
 use steps::inverse;
 
 /// How often each product is made.
-const RUNS: u32 = 400;
-
-/// What an inversion of the greatest degree asks for as scratch.
-const SCRATCH: usize = 41_120;
+const PRODUCTS: u32 = 400;
 
 /// How many inversions are made.
 const INVERSIONS: u32 = 40;
 
-/// Fills a list with codes that look random: a linear congruential generator, reduced to the field.
-pub(crate) fn fill<F: Field>(list: &mut [u16], seed: u32) {
-    let size = u32::from(F::size());
-    let mut state = seed;
-    for x in list.iter_mut() {
-        state = state.wrapping_mul(1_664_525).wrapping_add(1_013_904_223);
-        let code = (state >> 8).checked_rem(size).unwrap_or(0);
-        *x = u16::try_from(code).unwrap_or(0);
-    }
+/// What a call on polynomials of degree p asks for as scratch, 32·p + 256.
+pub(crate) fn scratch_for(p: usize) -> usize {
+    p.saturating_mul(32).saturating_add(256)
 }
 
-/// Multiplies by b over and over, each time the product before.
-fn repeat<F: Field>(p: usize, a: &mut [u16], b: &[u16], out: &mut [u16]) -> Result<(), Refusal> {
-    for _ in 0..RUNS {
-        product::<F>(p, a, b, out)?;
-        for (x, y) in a.iter_mut().zip(out.iter()) {
-            *x = *y;
+/// The nanoseconds that a call takes, on average over `runs` calls.
+pub(crate) fn time_call<C: FnMut() -> Result<(), Refusal>>(
+    rt: &impl Clock,
+    what: &str,
+    runs: u32,
+    mut call: C,
+) -> anyhow::Result<u128>
+    requires callable { C.IsAlwaysCallable call }
+    requires some { 0 < runs }
+{
+    let start = Instant::now(rt)?;
+    for _ in 0..runs {
+        if call().is_err() {
+            bail!("{what} was refused");
         }
     }
-    Ok(())
+    Ok(start.elapsed(rt)?.as_nanos() / u128::from(runs))
 }
 
-/// Times the product of degree p.
-fn time_product<F: Field>(rt: &HostRuntime, name: &str, p: usize) -> anyhow::Result<()> {
+/// Times the product of degree p: each time the product before is multiplied by b.
+fn time_product<F: Field>(
+    rt: &(impl Clock + Eprint + AllocGlobal),
+    name: &str,
+    p: usize,
+) -> anyhow::Result<()> {
     let mut a = vec![in rt.alloc(); 0u16; p]?;
     let mut b = vec![in rt.alloc(); 0u16; p]?;
     let mut out = vec![in rt.alloc(); 0u16; p]?;
-    fill::<F>(&mut a, 1);
-    fill::<F>(&mut b, 2);
-    let start = Instant::now(rt)?;
-    if repeat::<F>(p, &mut a, &b, &mut out).is_err() {
-        return Err(anyhow!("a product was refused"));
-    }
-    let nanos = start.elapsed(rt)?.as_nanos() / u128::from(RUNS);
+    Generator::new(1).fill::<F>(&mut a);
+    Generator::new(2).fill::<F>(&mut b);
+    let nanos = time_call(rt, "a product", PRODUCTS, || {
+        product::<F>(p, &a, &b, &mut out)?;
+        mem::swap(&mut a, &mut out);
+        Ok(())
+    })?;
     eprintln!(rt; "product over {name}, p = {p}: {nanos} ns")?;
     Ok(())
 }
 
-/// Inverts over and over, each time the inverse before with one added to its constant.
-fn invert_again<F: Field>(
+/// Times the inverse of degree p: each time the inverse before is inverted, with one added to its constant.
+fn time_inverse<F: Field>(
+    rt: &(impl Clock + Eprint + AllocGlobal),
+    name: &str,
     p: usize,
-    a: &mut [u16],
-    out: &mut [u16],
-    scratch: &mut [u16],
-) -> Result<u32, Refusal> {
+) -> anyhow::Result<()> {
+    let mut a = vec![in rt.alloc(); 0u16; p]?;
+    let mut out = vec![in rt.alloc(); 0u16; p]?;
+    let mut scratch = vec![in rt.alloc(); 0u16; scratch_for(GREATEST_DEGREE)]?;
     let mut found = 0u32;
-    for _ in 0..INVERSIONS {
-        match inverse::<F>(p, a, out, scratch) {
+    Generator::new(3).fill::<F>(&mut a);
+    let nanos = time_call(rt, "an inversion", INVERSIONS, || {
+        match inverse::<F>(p, &a, &mut out, &mut scratch) {
             Ok(_) => {
                 found = found.saturating_add(1);
-                a.swap_with_slice(out);
+                mem::swap(&mut a, &mut out);
             }
             Err(Refusal::NoInverse { .. }) => {}
             Err(refusal) => return Err(refusal),
@@ -81,21 +92,8 @@ fn invert_again<F: Field>(
         if let Some(x) = a.first_mut() {
             *x = F::add(*x, 1);
         }
-    }
-    Ok(found)
-}
-
-/// Times the inverse of degree p.
-fn time_inverse<F: Field>(rt: &HostRuntime, name: &str, p: usize) -> anyhow::Result<()> {
-    let mut a = vec![in rt.alloc(); 0u16; p]?;
-    let mut out = vec![in rt.alloc(); 0u16; p]?;
-    let mut scratch = vec![in rt.alloc(); 0u16; SCRATCH]?;
-    fill::<F>(&mut a, 3);
-    let start = Instant::now(rt)?;
-    let Ok(found) = invert_again::<F>(p, &mut a, &mut out, &mut scratch) else {
-        return Err(anyhow!("an inversion was refused"));
-    };
-    let nanos = start.elapsed(rt)?.as_nanos() / u128::from(INVERSIONS);
+        Ok(())
+    })?;
     eprintln!(rt; "inverse over {name}, p = {p}: {nanos} ns, {found} of {INVERSIONS} found")?;
     Ok(())
 }

@@ -14,21 +14,20 @@ const P: usize = 761;
 fn main(rt: HostRuntime) -> io::Result<()> {
     let mut text = Vec::new(rt.alloc());
     rt.stdin().read_to_end(&mut text)?;
+    // Four lists and no struct of them, as `read_key` takes them.
     let mut g = [0u16; P];
     let mut f = [0u16; P];
     let mut v = [0u16; P];
     let mut h = [0u16; P];
-    match read_key(text.as_slice(), &mut g, &mut f, &mut v, &mut h) {
-        Err(why) => println!(rt; "malformed: {why}"),
-        Ok(()) => {
-            tell(&rt, "h * 3f = g over Z_4591", confirm_h(P, &g, &f, &h))?;
-            tell(&rt, "v * g = 1 over Z_3", confirm_v(P, &g, &v))
-        }
+    if let Err(why) = read_key(&text, &mut g, &mut f, &mut v, &mut h) {
+        return println!(rt; "malformed: {why}");
     }
+    tell(&rt, "h * 3f = g over Z_4591", confirm_h(P, &g, &f, &h))?;
+    tell(&rt, "v * g = 1 over Z_3", confirm_v(P, &g, &v))
 }
 
 /// Prints at how many places an equation holds.
-fn tell(rt: &HostRuntime, equation: &str, agreeing: Result<usize, Refusal>) -> io::Result<()> {
+fn tell(rt: &impl Print, equation: &str, agreeing: Result<usize, Refusal>) -> io::Result<()> {
     match agreeing {
         Ok(count) => println!(rt; "{equation}: {count} of {P} coefficients agree"),
         Err(why) => println!(rt; "{equation}: refused: {why:?}"),

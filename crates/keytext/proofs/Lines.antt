@@ -1,16 +1,33 @@
 -- Lines of trits and of numbers, as their readers meet them.
-use Rattle.std.proofs.Common.{◌≡◌, ℕ, ◌+◌, ◌<◌, ◌≤◌, true, ltb, List, [], ◌∷◌, ◌++◌, map, length, get_or, take, drop, set, decimal, sym, refl, ap, ◌∙◌, subst, ap₂, arith}
+use Rattle.std.proofs.Common.{◌≡◌, ℕ, ◌+◌, ◌-◌, ◌<◌, ◌≤◌, ◌≢◌, true, ltb, List, [], ◌∷◌, ◌++◌, map, length, get_or, take, drop, set, decimal, sym, refl, ap, ◌∙◌, subst, ap₂, arith, Some, Result, Ok, Err, MatchResult}
+use Rattle.std.specs.Result.{IsErrAnd}
 use Rattle.std.specs.List.{flat_map}
-use Rattle.std.specs.Char.{is_ascii_digit}
 use Rattle.std.specs.Str.{all_ascii_digits}
-use Rattle.std.proofs.lemmas.List.{append_assoc, append-nil, length-set, take_more, take_more_set, take-set, take_all, drop_more, drop_all, map_push, get_or-map, get_or-set_same, flat_map_more}
-use Rattle.std.proofs.lemmas.Bool.{and_parts, and_from, leb-true, lt-ltb}
+use Rattle.std.proofs.lemmas.List.Elements.{All-from_get_or}
+use Rattle.std.proofs.lemmas.List.{append_assoc, length-set, take_more, take_more_set, take-set, take_all, drop_more, map_push, get_or-map, get_or-set_same, flat_map_more}
+use Rattle.std.proofs.lemmas.Bool.{and_from, lt-ltb}
 use Rattle.field.specs.Meaning.{all_codes}
 use Rattle.field.proofs.Codes.{all_codes_more, all_codes_at}
-use Rattle.keytext.specs.Cuts.{Lacks, Stops}
-use Rattle.keytext.specs.Lines.{digit, spaced, IsTritLine, IsNumberLine}
+use Rattle.keytext.specs.declared.malformed.Line.{Line}
+use Rattle.keytext.specs.declared.malformed.Malformed.{Malformed}
+use Rattle.keytext.specs.declared.malformed.Unread.{Unread}
+use Rattle.keytext.specs.Cuts.{Lacks, Stops, IsCut}
+use Rattle.keytext.specs.Lines.{line_of, digit, spaced, IsTritLine, IsNumberLine}
 use Rattle.keytext.proofs.Cutting.{same_cut}
-use Rattle.keytext.proofs.Decimals.{digits_of_decimal}
+use Rattle.keytext.proofs.Decimals.{digit_within, digits_of_decimal}
+
+-- the rest of a list, as the pattern `[_, rest @ ..]` gives it
+pub first_and_rest : (xs : List ℕ) → 1 ≤ length xs → xs ≡ get_or xs 0 0 ∷ take (length xs - 1) (drop 1 xs)
+first_and_rest [] some = absurd (omega arith)
+first_and_rest (x ∷ xs) some = ap (λ ys. x ∷ ys) (sym (take_all _ xs (omega arith)))
+
+-- what is said of a number that is not read, at its place in a line
+pub at_place : {T : Type 0} (l : Line) (N : Type 0) (P : T → Type 0) (r : Result T Unread) (s : Result T Malformed) (calls : Unread → Malformed → Type 0)
+    → MatchResult r (λ x. s ≡ Ok x) (λ e. IsErrAnd s (calls e)) → ((e : Unread) (y : Malformed) → calls e y → line_of y ≡ Some l)
+    → MatchResult r P (λ _. N) → MatchResult s P (λ y. (line_of y ≡ Some l) × N)
+at_place l N P (Ok x) s calls is says h = rw is h
+at_place l N P (Err e) (Ok x) calls is says h = absurd is
+at_place l N P (Err e) (Err y) calls is says h = (says e y is, h)
 
 -- one code more
 pub codes_more : (s : ℕ) (xs : List ℕ) (k x : ℕ) → k < length xs → x < s → all_codes s (take k xs) ≡ true → all_codes s (take (k + 1) (set xs k x)) ≡ true
@@ -42,12 +59,7 @@ joined_stops [] = tt
 joined_stops (x ∷ xs) = refl
 
 lacks_digits : (c : ℕ) (ds : List ℕ) → c < 48 → all_ascii_digits ds ≡ true → Lacks c ds
-lacks_digits c [] l e = tt
-lacks_digits c (d ∷ ds) l e =
-    let p = and_parts (is_ascii_digit d) (all_ascii_digits ds) e in
-    let q = and_parts _ _ p.0 in
-    let low : 48 ≤ d = leb-true 48 d q.0 in
-    (λ z. omega arith, lacks_digits c ds l p.1)
+lacks_digits c ds l e = All-from_get_or (λ d. d ≢ c) ds 0 (λ i h z. omega (arith, digit_within ds i e h))
 
 pub lacks_decimal : (c x : ℕ) → c < 48 → x < 4591 → Lacks c (decimal x)
 lacks_decimal c x l h = lacks_digits c (decimal x) l (digits_of_decimal x h)
@@ -60,10 +72,10 @@ pub after_space : (text rest : List ℕ) (s : ℕ) → Stops 32 text → text �
 after_space text rest s stops begins = begins ∙ ap (λ x. x ∷ rest) (subst (Stops 32) begins stops)
 
 -- and goes on with what is the decimal of no code
-pub no_code : (text ds after : List ℕ) → text ≡ 32 ∷ (ds ++ after) → Lacks 32 ds → Stops 32 after → ((x : ℕ) → x < 4591 → ds ≡ decimal x → ⊥) → (x : ℕ) (u : List ℕ) → x < 4591 → Stops 32 u → text ≡ 32 ∷ (decimal x ++ u) → ⊥
-no_code text ds after f front back none x u small stop e =
-    let tails : ds ++ after ≡ decimal x ++ u = cc in
-    none x small (code_cut x ds after u small front back stop tails).0
+pub no_code : (text codes front back : List ℕ) → text ≡ 32 ∷ codes → IsCut 32 codes front back → ((x : ℕ) → x < 4591 → front ≡ decimal x → ⊥) → (x : ℕ) (u : List ℕ) → x < 4591 → Stops 32 u → text ≡ 32 ∷ (decimal x ++ u) → ⊥
+no_code text codes front back begins cut none x u small stop e =
+    let tails : front ++ back ≡ decimal x ++ u = cc in
+    none x small (code_cut x front back u small cut.lacks cut.stops stop tails).0
 
 -- what is left of a line of numbers, before its number k
 module _ (letter : ℕ) (text rest xs : List ℕ) (k : ℕ) (is : IsNumberLine letter text xs) (left : rest ≡ flat_map spaced (drop k xs)) (within : k < length xs) where
@@ -84,11 +96,3 @@ numbers_more text rest after xs letter k x h so_far e =
     let front : List ℕ = flat_map spaced (take k xs) in
     let more : front ++ spaced x ≡ flat_map spaced (take (k + 1) (set xs k x)) = flat_map_more spaced [] (take k xs) x ∙ ap (flat_map spaced) (sym (take_more_set xs k x h)) in
     so_far ∙ ap (λ t. letter ∷ (front ++ t)) e ∙ ap (λ t. letter ∷ t) (sym (append_assoc front (spaced x) after)) ∙ ap (λ t. letter ∷ (t ++ after)) more
-
-pub numbers_all : (text rest xs : List ℕ) (letter k : ℕ) → length xs ≤ k → text ≡ letter ∷ (flat_map spaced (take k xs) ++ rest) → rest ≡ [] → text ≡ letter ∷ flat_map spaced xs
-numbers_all text rest xs letter k h so_far e =
-    so_far ∙ ap (λ t. letter ∷ (flat_map spaced (take k xs) ++ t)) e
-    ∙ ap (λ t. letter ∷ t) (append-nil (flat_map spaced (take k xs)) ∙ ap (flat_map spaced) (take_all k xs h))
-
-pub numbers_left : (rest xs : List ℕ) (k : ℕ) → rest ≡ flat_map spaced (drop k xs) → length xs ≤ k → length rest ≡ 0
-numbers_left rest xs k left h = ap length (left ∙ ap (flat_map spaced) (drop_all k xs h))

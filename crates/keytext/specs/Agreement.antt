@@ -1,6 +1,7 @@
 -- How far the lists of a key agree with one another.
 -- Main definitions: `lifted`, `tripled`, `agreeing`, `EqualAtAll`; `lists_asked`.
-use Rattle.std.specs.Prelude.{◌≡◌, ℕ, ◌+◌, ◌*◌, ◌%◌, cond, ◌&&◌, List, [], ◌∷◌, map, length, Option, ◌==◌}
+use Rattle.std.specs.Prelude.{◌≡◌, ℕ, ◌*◌, ◌%◌, cond, ◌&&◌, List, [], ◌∷◌, map, length, Option, ◌==◌, count_by}
+use Rattle.std.specs.List.{zip}
 use Rattle.refusal.specs.declared.Refusal.{Refusal}
 use Rattle.refusal.specs.declared.Refusal.TheVariants.{Length, NotACode}
 use Rattle.refusal.specs.Questions.{asked}
@@ -21,23 +22,13 @@ triple t = 3 * lift t % 4591
 abbrev pub tripled : List ℕ → List ℕ
 tripled xs = map triple xs
 
--- 1 for equal numbers, else 0
-abbrev pub agrees_at : ℕ → ℕ → ℕ
-agrees_at x y = cond (x == y) 1 0
-
 -- at how many places two lists hold the same number
 abbrev pub agreeing : List ℕ → List ℕ → ℕ
-agreeing [] ys = 0
-agreeing (x ∷ xs) [] = 0
-agreeing (x ∷ xs) (y ∷ ys) = agrees_at x y + agreeing xs ys
+agreeing xs ys = count_by (λ p. p.0 == p.1) (zip xs ys)
 
 -- a count n of all p places says that the lists are equal
 abbrev pub EqualAtAll : ℕ → List ℕ → List ℕ → ℕ → Type 0
 EqualAtAll p xs ys n = n ≡ p → xs ≡ ys
-
--- coefficient k of the polynomial 1
-abbrev pub one_at : ℕ → ℕ
-one_at k = cond (k == 0) 1 0
 
 -- the questions of a call on g, f and h, in the order in which the ring asks
 abbrev pub lists_asked : ℕ → List ℕ → List ℕ → List ℕ → List (Option Refusal)

@@ -1,18 +1,11 @@
 //! Where a text is cut.
 
-ghost use Rattle.std.specs.Prelude.{◌≤◌, length, take, drop};
-ghost use Rattle.keytext.specs.Cuts.{Lacks, Stops};
+ghost use Rattle.keytext.specs.Cuts.{IsCut};
 
-/// The place of the first byte `b`, or the length where there is none.
-pub(crate) fn find(text: &[u8], b: u8) -> usize
-    ensures within { result ≤ length text.now }
-    ensures front { Lacks b (take result text.now) }
-    ensures back { Stops b (drop result text.now) }
+/// Cuts a text before its first byte `b`, or at its end where there is none.
+pub(crate) fn cut(text: &[u8], b: u8) -> (&[u8], &[u8])
+    ensures { IsCut b text.now result.0.now result.1.now }
 {
-    for (i, x) in text.iter().enumerate() {
-        if *x == b {
-            return i;
-        }
-    }
-    text.len()
+    let place = text.iter().position(|x| *x == b);
+    text.split_at(place.unwrap_or(text.len()))
 }

@@ -1,16 +1,16 @@
 //! The reader of a key.
 
-ghost use Rattle.std.specs.Prelude.{◌≡◌, ◌⊎◌, [], ◌∷◌, ◌++◌, length, MatchResult, nat_le};
-ghost use Rattle.keytext.specs.Cuts.{Lacks, Stops};
+ghost use Rattle.std.specs.Prelude.{◌≡◌, [], length, MatchResult};
+ghost use Rattle.keytext.specs.Cuts.{IsCut};
 ghost use Rattle.keytext.specs.Keys.{IsKey, NoKey, TritsRead, NoTrits, IsLast};
 ghost use Rattle.keytext.specs.Lines.{letter_of, NoneOf};
 
-use crate::cut::find;
+use crate::cut::cut;
 use crate::line::{read_numbers, read_trits};
 use crate::malformed::{Line, Malformed};
 
 /// Reads the text of a key whose lists have as many numbers as the outputs: g, f and v are trits, and h
-/// holds codes of Z_4591.
+/// holds codes of Z_4591. The lists come one by one: of a struct of lists nothing is known once one of them was lent.
 pub fn read_key(
     text: &[u8],
     g: &mut [u16],
@@ -32,7 +32,7 @@ fn next_trits<'a>(line: Line, text: &'a [u8], out: &mut [u16]) -> Result<&'a [u8
 {
     let (front, back) = first_line(line, text)?;
     read_trits(line, front, out)?;
-    Ok(after_newline(back))
+    Ok(back.strip_prefix(b"\n").unwrap_or(back))
 }
 
 /// Reads a text as the line h and nothing more.
@@ -41,36 +41,18 @@ fn last_numbers(text: &[u8], out: &mut [u16]) -> Result<(), Malformed>
 {
     let (front, back) = first_line(Line::H, text)?;
     read_numbers(Line::H, front, out)?;
-    if !is_short(back) {
-        return Err(Malformed::TrailingText);
+    match back {
+        [] | [_] => Ok(()),
+        _ => Err(Malformed::TrailingText),
     }
-    Ok(())
-}
-
-/// Whether a text is at most one byte.
-fn is_short(text: &[u8]) -> bool
-    ensures { result ≡ nat_le (length text.now) 1 }
-{
-    text.len() <= 1
 }
 
 /// Cuts a text before its first newline; an empty text has no line.
 fn first_line(line: Line, text: &[u8]) -> Result<(&[u8], &[u8]), Malformed>
-    ensures { MatchResult result (λ cut. (text.now ≡ cut.0.now ++ cut.1.now) × Lacks 10 cut.0.now × Stops 10 cut.1.now) (λ _. text.now ≡ []) }
+    ensures { MatchResult result (λ parts. IsCut 10 text.now parts.0.now parts.1.now) (λ _. text.now ≡ []) }
 {
     if text.is_empty() {
         return Err(Malformed::Missing { line });
     }
-    Ok(text.split_at(find(text, b'\n')))
-}
-
-/// What follows the newline that a text begins with, or nothing.
-fn after_newline(text: &[u8]) -> &[u8]
-    requires { Stops 10 text.now }
-    ensures { (text.now ≡ 10 ∷ result.now) ⊎ ((text.now ≡ []) × (result.now ≡ [])) }
-{
-    match text.split_first() {
-        Some((_, rest)) => rest,
-        None => text,
-    }
+    Ok(cut(text, b'\n'))
 }

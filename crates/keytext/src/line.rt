@@ -1,26 +1,24 @@
 //! The readers of the lines.
 
-ghost use Rattle.std.specs.Prelude.{◌≡◌, ℕ, ◌+◌, ◌<◌, List, ◌∷◌, ◌++◌, length, Some, decimal, MatchBool, MatchResult, ◌≢◌};
+ghost use Rattle.std.specs.Prelude.{◌≡◌, ℕ, ◌+◌, ◌<◌, List, ◌∷◌, ◌++◌, length, Some, decimal, IsTrue, MatchResult, ◌≢◌, ◌↔◌};
 ghost use Rattle.keytext.specs.Cuts.{Stops};
 ghost use Rattle.keytext.specs.Lines.{letter_of, line_of, digit, IsTritLine, IsNumberLine, NoneOf};
 
-use crate::cut::find;
-use crate::malformed::{Line, Malformed};
+use crate::cut::cut;
+use crate::malformed::{Line, Malformed, Unread};
 use crate::number::read_code;
 
 /// Reads a line of as many trits as `out` has places.
 pub fn read_trits(line: Line, text: &[u8], out: &mut [u16]) -> Result<(), Malformed>
     ensures { MatchResult result (λ _. IsTritLine (letter_of line) text.now out.new) (λ e. (line_of e ≡ Some line) × NoneOf (length out.old) (IsTritLine (letter_of line) text.now)) }
 {
-    let rest = after_letter(line, text)?;
-    let Some((_, digits)) = rest.split_first() else {
-        return Err(Malformed::WrongCount { line });
+    let digits = match after_letter(line, text)? {
+        [_, digits @ ..] if digits.len() == out.len() => digits,
+        _ => return Err(Malformed::WrongCount { line }),
     };
-    if digits.len() != out.len() {
-        return Err(Malformed::WrongCount { line });
-    }
-    for k in 0..out.len() {
-        out[k] = read_trit(line, k + 1, digits[k])?;
+    // By index: of a `zip` of `out` a contract would not know what was written.
+    for (k, x) in out.iter_mut().enumerate() {
+        *x = read_trit(digits[k]).map_err(|why| why.at(line, k + 1))?;
     }
     Ok(())
 }
@@ -30,10 +28,8 @@ pub fn read_numbers(line: Line, text: &[u8], out: &mut [u16]) -> Result<(), Malf
     ensures { MatchResult result (λ _. IsNumberLine (letter_of line) text.now out.new) (λ e. (line_of e ≡ Some line) × NoneOf (length out.old) (IsNumberLine (letter_of line) text.now)) }
 {
     let mut rest = after_letter(line, text)?;
-    for k in 0..out.len() {
-        let (code, after) = next_code(line, k + 1, rest)?;
-        out[k] = code;
-        rest = after;
+    for (k, x) in out.iter_mut().enumerate() {
+        (*x, rest) = next_code(rest).map_err(|why| why.at(line, k + 1))?;
     }
     if !rest.is_empty() {
         return Err(Malformed::WrongCount { line });
@@ -45,45 +41,36 @@ pub fn read_numbers(line: Line, text: &[u8], out: &mut [u16]) -> Result<(), Malf
 fn after_letter(line: Line, text: &[u8]) -> Result<&[u8], Malformed>
     ensures { MatchResult result (λ rest. (text.now ≡ letter_of line ∷ rest.now) × Stops 32 rest.now) (λ e. (line_of e ≡ Some line) × ((u : List ℕ) → Stops 32 u → text.now ≢ letter_of line ∷ u)) }
 {
-    let Some((first, rest)) = text.split_first() else {
-        return Err(Malformed::WrongLabel { line });
-    };
-    if *first != line.letter() || !is_spaced(rest) {
-        return Err(Malformed::WrongLabel { line });
+    match text {
+        [first, rest @ ..] if *first == line.letter() && is_spaced(rest) => Ok(rest),
+        _ => Err(Malformed::WrongLabel { line }),
     }
-    Ok(rest)
 }
 
 /// Whether a text is empty or begins with a space.
 fn is_spaced(text: &[u8]) -> bool
-    ensures { MatchBool result (Stops 32 text.now) (Stops 32 text.now → ⊥) }
+    ensures { IsTrue result ↔ Stops 32 text.now }
 {
-    match text {
-        [] => true,
-        [first, ..] => *first == b' ',
-    }
+    matches!(text, [] | [b' ', ..])
 }
 
 /// The trit that a digit stands for.
-fn read_trit(line: Line, place: usize, byte: u8) -> Result<u16, Malformed>
-    ensures { MatchResult result (λ t. (t < 3) × (byte ≡ digit t)) (λ e. (line_of e ≡ Some line) × ((t : ℕ) → t < 3 → byte ≢ digit t)) }
+fn read_trit(byte: u8) -> Result<u16, Unread>
+    ensures { MatchResult result (λ t. (t < 3) × (byte ≡ digit t)) (λ _. (t : ℕ) → t < 3 → byte ≢ digit t) }
 {
     match byte {
         b'0'..=b'2' => Ok(u16::from(byte - b'0')),
-        b'3'..=b'9' => Err(Malformed::OutOfRange { line, place }),
-        _ => Err(Malformed::NotANumber { line, place }),
+        b'3'..=b'9' => Err(Unread::OutOfRange),
+        _ => Err(Unread::NotANumber),
     }
 }
 
 /// The code after a space, and what follows it.
-fn next_code(line: Line, place: usize, text: &[u8]) -> Result<(u16, &[u8]), Malformed>
+fn next_code(text: &[u8]) -> Result<(u16, &[u8]), Unread>
     requires { Stops 32 text.now }
-    ensures { MatchResult result (λ x. (x.0 < 4591) × (text.now ≡ 32 ∷ (decimal x.0 ++ x.1.now)) × Stops 32 x.1.now) (λ e. (line_of e ≡ Some line) × ((x : ℕ) (u : List ℕ) → x < 4591 → Stops 32 u → text.now ≢ 32 ∷ (decimal x ++ u))) }
+    ensures { MatchResult result (λ x. (x.0 < 4591) × (text.now ≡ 32 ∷ (decimal x.0 ++ x.1.now)) × Stops 32 x.1.now) (λ _. (x : ℕ) (u : List ℕ) → x < 4591 → Stops 32 u → text.now ≢ 32 ∷ (decimal x ++ u)) }
 {
-    let Some((_, codes)) = text.split_first() else {
-        return Err(Malformed::WrongCount { line });
-    };
-    let (digits, after) = codes.split_at(find(codes, b' '));
-    let code = read_code(line, place, digits)?;
-    Ok((code, after))
+    let (_, codes) = text.split_first().ok_or(Unread::Nothing)?;
+    let (digits, after) = cut(codes, b' ');
+    Ok((read_code(digits)?, after))
 }

@@ -1,7 +1,7 @@
 //! What is wrong with a text.
 
 ghost use Rattle.std.specs.Prelude.{◌≡◌, Some};
-ghost use Rattle.keytext.specs.Lines.{letter_of};
+ghost use Rattle.keytext.specs.Lines.{letter_of, line_of};
 ghost use Rattle.keytext.specs.Messages.{name_of, message_of};
 
 use std::fmt;
@@ -16,7 +16,7 @@ pub enum Line {
 }
 
 impl Line {
-    /// The letter that the line begins with.
+    /// The letter that the line begins with. A method, since `u8::from(line)` would not say which number it gives.
     pub fn letter(self) -> u8
         ensures { result ≡ letter_of self }
     {
@@ -33,16 +33,11 @@ impl fmt::Display for Line {
     ghost output = { λ line. Some (name_of line) };
 
     fn fmt<W: fmt::Write>(&self, f: &mut fmt::Formatter<W>) -> fmt::Result {
-        match self {
-            Line::G => write!(f, "line g"),
-            Line::F => write!(f, "line f"),
-            Line::V => write!(f, "line v"),
-            Line::H => write!(f, "line h"),
-        }
+        write!(f, "line {}", char::from(self.letter()))
     }
 }
 
-/// Why a text is no key. A place is counted from 1.
+/// Why a text is no key. A place is counted from 1; it stands beside its line, since most variants have a line alone.
 #[derive(Clone, Copy, PartialEq, Eq, Debug)]
 pub enum Malformed {
     /// The text ends before this line.
@@ -59,6 +54,7 @@ pub enum Malformed {
     TrailingText,
 }
 
+/// Written out, since a derived one would promise no text.
 impl fmt::Display for Malformed {
     ghost output = { λ why. Some (message_of why) };
 
@@ -76,6 +72,30 @@ impl fmt::Display for Malformed {
                 "{line}: number {place} is out of range"
             ),
             Malformed::TrailingText => write!(f, "text after line h"),
+        }
+    }
+}
+
+/// Why what stands at a place of a line is not read.
+#[derive(Clone, Copy)]
+pub(crate) enum Unread {
+    /// Nothing stands there.
+    Nothing,
+    /// It is no number, or is not written as numbers are.
+    NotANumber,
+    /// The number is too large.
+    OutOfRange,
+}
+
+impl Unread {
+    /// What is wrong with a text where this is so at a place of a line.
+    pub(crate) fn at(self, line: Line, place: usize) -> Malformed
+        ensures { line_of result ≡ Some line }
+    {
+        match self {
+            Unread::Nothing => Malformed::WrongCount { line },
+            Unread::NotANumber => Malformed::NotANumber { line, place },
+            Unread::OutOfRange => Malformed::OutOfRange { line, place },
         }
     }
 }

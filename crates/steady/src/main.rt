@@ -4,33 +4,22 @@
 
 #![tactic(auto)]
 
-use field::Field;
 use residues::Z4591;
+use samples::Generator;
 use std::io::Read;
 use steps::inverse;
 
 /// How many coefficients the polynomial has.
 const P: usize = 761;
 
-/// What an inversion asks for as scratch, 32·P + 256.
-const SCRATCH: usize = 24_608;
+/// What an inversion asks for as scratch.
+const SCRATCH: usize = 32 * P + 256;
 
-/// Fills a list with codes that look random, by a linear congruential generator.
-fn fill(list: &mut [u16], seed: u32) {
-    let mut state = seed;
-    for x in list.iter_mut() {
-        state = state.wrapping_mul(1_664_525).wrapping_add(1_013_904_223);
-        *x = ((state >> 8) % 4591) as u16;
-    }
-}
-
-/// The number that four digits are.
+/// The number that four digits are. By hand, since `parse` does one instruction more for some digits than for others.
 fn number(digits: &[u8]) -> u32 {
-    let mut n = 0u32;
-    for d in digits {
-        n = n.wrapping_mul(10).wrapping_add(u32::from(*d & 15));
-    }
-    n
+    digits.iter().fold(0u32, |n, d| {
+        n.wrapping_mul(10).wrapping_add(u32::from(*d & 15))
+    })
 }
 
 fn main(rt: HostRuntime) -> anyhow::Result<()> {
@@ -39,11 +28,10 @@ fn main(rt: HostRuntime) -> anyhow::Result<()> {
     let mut a = [0u16; P];
     let mut out = [0u16; P];
     let mut scratch = vec![in rt.alloc(); 0u16; SCRATCH]?;
-    fill(&mut a, number(&digits));
-    if inverse::<Z4591>(P, &a, &mut out, &mut scratch).is_err() {
-        println!(rt; "no inverse")?;
-        return Ok(());
+    Generator::new(number(&digits)).fill::<Z4591>(&mut a);
+    match inverse::<Z4591>(P, &a, &mut out, &mut scratch) {
+        Ok(steps) => println!(rt; "an inverse was found by {steps} steps")?,
+        Err(_) => println!(rt; "no inverse")?,
     }
-    println!(rt; "an inverse was found by 1521 steps")?;
     Ok(())
 }

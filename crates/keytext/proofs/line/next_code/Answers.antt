@@ -1,26 +1,11 @@
-use Rattle.std.proofs.Common.{◌∷◌, ◌++◌, sym, ap, ◌∙◌, subst}
-use Rattle.std.proofs.lemmas.Result.{err_from_is_err_and}
-use Rattle.keytext.specs.Cuts.{Lacks, Stops}
+use Rattle.std.proofs.lemmas.Option.{MatchOption-at_some}
+use Rattle.std.proofs.lemmas.Result.{MatchResult-from_err}
 use Rattle.keytext.proofs.Lines.{after_space, no_code}
 use Rattle.keytext.proofs.line.next_code.Goals as goal
 
-pub returns-in_err-code : goal.returns-in_err-code
-returns-in_err-code c =
-    let p = err_from_is_err_and c.from_residual.result c.from_residual.ensures.1 in
-    let cut = c.split_at.ensures in
-    let text = after_space c.args.text.now c.in-Some.codes.now _ c.requires c.in-Some.ensures.cases.0 in
-    rw (p.1, p.2) (
-      c.in_err-code.ensures.0,
-      no_code c.args.text.now c.split_at.result.0.now c.split_at.result.1.now (text ∙ ap (λ t. 32 ∷ t) cut.by_index.0)
-          (subst (Lacks 32) (sym cut.front) c.find.ensures.front) (subst (Stops 32) (sym cut.back) c.find.ensures.back) c.in_err-code.ensures.1,
-    )
-
-pub returns : goal.returns
-returns c =
-    let cut = c.split_at.ensures in
-    let text = after_space c.args.text.now c.in-Some.codes.now _ c.requires c.in-Some.ensures.cases.0 in
-    let code = c.in_ok-code.ensures in (
-      code.0,
-      text ∙ ap (λ t. 32 ∷ t) cut.by_index.0 ∙ ap (λ t. 32 ∷ (t ++ c.split_at.result.1.now)) code.1,
-      subst (Stops 32) (sym cut.back) c.find.ensures.back,
-    )
+pub returns-in_err-read_code : goal.returns-in_err-read_code
+returns-in_err-read_code c =
+    let begins = MatchOption-at_some _ _ _ c.in_ok-codes.ensures.ok_part c.split_first.ensures.cases in
+    let text = after_space c.args.text.now c.in_ok-codes.codes.now _ c.requires begins.0 in
+    MatchResult-from_err _ _ _ c.from_residual-in_err-read_code.ensures.0
+    (λ _. no_code c.args.text.now c.in_ok-codes.codes.now _ _ text c.cut.ensures c.in_err-read_code.ensures)

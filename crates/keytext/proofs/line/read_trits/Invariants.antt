@@ -4,4 +4,4 @@ use Rattle.keytext.specs.Lines.{digit}
 use Rattle.keytext.proofs.line.read_trits.Given as goal
 
 abbrev pub invariant-loop-k : goal.invariant-loop-k
-invariant-loop-k l = (all_codes 3 (take l.k l.out) ≡ true) × (take l.k l.digits ≡ map digit (take l.k l.out))
+invariant-loop-k l = (all_codes 3 (take l.k-counter l.out) ≡ true) × (take l.k-counter l.digits ≡ map digit (take l.k-counter l.out))
