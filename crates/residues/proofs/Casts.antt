@@ -1,6 +1,6 @@
 -- Numbers below 2^15 under casts by way of signed types.
 -- Main results: `kept`, `each`, and what each cast asks and gives of a small number.
-use Rattle.std.proofs.Common.{◌≡◌, ℕ, ◌<◌, ◌≤◌, T, List, [], ◌∷◌, map, length, get_or, pos, nat_abs, sym, refl, ap, ◌∙◌, subst, arith, w16, w32, Fits, SFits, to_z, of_z}
+use Rattle.std.proofs.Common.{◌≡◌, ℕ, ◌<◌, ◌≤◌, T, List, [], ◌∷◌, map, length, get_or, nat_abs, sym, refl, ap, ◌∙◌, subst, arith, w16, w32, Fits, to_z, of_z}
 use lib.Lanes.{Each1}
 use mir.Facts.{to_z_pos}
 use lib.Signed.{non_neg}
@@ -20,12 +20,6 @@ kept f e (x ∷ xs) s = ap (λ z. z ∷ map f xs) (e x s.0) ∙ ap (λ z. x ∷ 
 pub each : (P : ℕ → Type 0) → ((a : ℕ) → Small a → P a) → (xs : List ℕ) → Each1 Small xs → Each1 P xs
 each P e [] s = tt
 each P e (x ∷ xs) s = (e x s.0, each P e xs s.1)
-
-pub to_signed : (a : ℕ) → Small a → SFits w16 (pos a)
-to_signed a h = record { sfits = omega arith }
-
-pub wider : (a : ℕ) → Small a → SFits w32 (to_z w16 a)
-wider a h = subst (SFits w32) (sym (to_z_pos w16 (omega arith))) (record { sfits = omega arith })
 
 pub wider_is : (a : ℕ) → Small a → of_z w32 (to_z w16 a) ≡ a
 wider_is a h = ap (of_z w32) (to_z_pos w16 (omega arith))

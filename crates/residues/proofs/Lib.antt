@@ -3,4 +3,3 @@ pub mod Pairs
 pub mod Picks
 pub mod Groups
 pub mod Casts
-pub mod Writes

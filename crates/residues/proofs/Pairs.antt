@@ -1,12 +1,21 @@
 -- Sums of products of rows and pairs.
 -- Main results: `pair_coef`, `pair_low`, `pair_skip`, `pair_end`, `pair_bound`, `window_step`.
-use Rattle.std.proofs.Common.{◌≡◌, ℕ, zero, suc, ◌+◌, ◌-◌, ◌*◌, ◌<◌, ◌≤◌, List, [], ◌∷◌, length, get_or, drop, sym, refl, ap, ◌∙◌, add_assoc, mul_comm, add-mul, mul-le-mul, arith}
+use Rattle.std.proofs.Common.{◌≡◌, ℕ, zero, suc, ◌+◌, ◌-◌, ◌*◌, ◌<◌, ◌≤◌, List, [], ◌∷◌, length, get_or, drop, sym, refl, ap, ◌∙◌, inl, inr, add_assoc, mul_comm, add-mul, mul-le-mul, arith}
 use lib.Lanes.{chunk}
-use Rattle.std.proofs.lemmas.List.{drop_more, drop_all}
+use Rattle.std.proofs.lemmas.Bool.{cases_lt}
+use Rattle.std.proofs.lemmas.List.{drop_more, drop_all, get_or_past, length-take}
 use Rattle.std.proofs.lemmas.Simd.{get_or-chunk}
 use Rattle.field.specs.Meaning.{code}
-use Rattle.residues.specs.Sums.{pair_sum, nat_coef, Spread}
+use Rattle.residues.specs.Sums.{AtMost, pair_sum, nat_coef, Spread}
 use Rattle.residues.proofs.Coefficients.{none, code_past}
+
+-- what is at most m in a list is at most any n above in a part of it
+pub at_most_chunk : (m i n : ℕ) (xs : List ℕ) (top : ℕ) → m ≤ top → AtMost m xs → AtMost top (chunk i n xs)
+at_most_chunk m i n xs top l h k =
+    elim (cases_lt k n) [
+      | inl a ↦ omega (arith, get_or-chunk i n xs k 0 a, h (i + k))
+      | inr a ↦ omega (arith, get_or_past (chunk i n xs) k 0 (omega (arith, length-take n (drop i xs))))
+    ]
 
 module _ (q : ℕ) where
   -- a product with the code b in place of one with it at its place

@@ -1,7 +1,6 @@
--- Lanes at each second place, and what holds of numbers by their parity or by parts.
--- Main results: `pick_own`, `turn_even` and `turn_odd`, `by_parity`, `by_part`.
-use Rattle.std.proofs.Common.{◌≡◌, ℕ, zero, suc, ◌+◌, ◌-◌, ◌*◌, ◌<◌, List, [], ◌∷◌, ◌++◌, map, length, get_or, refl, ap, ◌∙◌, subst, inl, inr, arith}
-use Rattle.std.proofs.lemmas.Bool.{cases_lt}
+-- Lanes at each second place, and what holds of numbers by their parity.
+-- Main results: `pick_own`, `turn_even` and `turn_odd`, `by_parity`.
+use Rattle.std.proofs.Common.{◌≡◌, ℕ, zero, suc, ◌+◌, ◌*◌, ◌<◌, List, [], ◌∷◌, ◌++◌, map, length, get_or, refl, ap, ◌∙◌, subst, arith}
 use Rattle.std.proofs.lemmas.List.{get_or_append_left}
 
 abbrev pub by_two : ℕ → ℕ → List ℕ
@@ -44,8 +43,3 @@ by_parity P (suc n) e o (suc (suc k)) h =
     (λ l i. let f : 2 * suc l ≡ suc (suc (2 * l)) = omega arith in subst P f (e (suc l) (omega arith)))
     (λ l i. let f : 2 * suc l + 1 ≡ suc (suc (2 * l + 1)) = omega arith in subst P f (o (suc l) (omega arith)))
     k (omega arith)
-
--- what holds of each number below n and of each of the m from n on holds of each below n + m
-pub by_part : (P : ℕ → Type 0) (n m : ℕ) → ((j : ℕ) → j < n → P j) → ((l : ℕ) → l < m → P (n + l)) → (j : ℕ) → j < n + m → P j
-by_part P n m f g j h =
-    elim (cases_lt j n) [ inl a ↦ f j a | inr a ↦ let e : n + (j - n) ≡ j = omega arith in subst P e (g (j - n) (omega arith)) ]

@@ -1,11 +1,21 @@
 -- Sums of products of rows and pairs, as the kernel of `wide` forms them, in the natural numbers.
--- Main definitions: `AtMost`, `pair_sum`, `nat_coef`, `Spread`.
-use Rattle.std.specs.Prelude.{◌≡◌, ℕ, zero, suc, ◌+◌, ◌-◌, ◌*◌, ◌<◌, ◌≤◌, List, [], ◌∷◌, slice_index}
+-- Main definitions: `AllZero`, `AtMost`, `IsGroup`, `pair_sum`, `nat_coef`, `Spread`.
+use Rattle.std.specs.Prelude.{◌≡◌, ℕ, zero, suc, ◌+◌, ◌-◌, ◌*◌, ◌%◌, ◌<◌, ◌≤◌, List, [], ◌∷◌, length, slice_index}
 use Rattle.field.specs.Meaning.{code}
+
+-- each number of a list is 0
+abbrev pub AllZero : List ℕ → Type 0
+AllZero xs = (k : ℕ) → slice_index xs k ≡ 0
 
 -- each number of a list is at most m
 abbrev pub AtMost : ℕ → List ℕ → Type 0
 AtMost m xs = (k : ℕ) → slice_index xs k ≤ m
+
+-- a group of rows, of which no sum leaves 32 bits
+pub record IsGroup (rows : List ℕ) : Type 0 where
+  pub few : length rows ≤ 192
+  pub even : length rows % 2 ≡ 0
+  pub small : AtMost 4590 rows
 
 -- the rows two by two, the first two times the pair t of bs, the next two times the pair t - 2, and so on down
 abbrev pub pair_sum : List ℕ → List ℕ → ℕ → ℕ

@@ -1,6 +1,6 @@
-use Rattle.std.proofs.Common.{◌≡◌, cond, ltb, get_or}
+use Rattle.std.proofs.Common.{◌≡◌, ◌<◌, ◌≤◌, get_or}
 use Rattle.residues.proofs.residue.scan.Given as goal
 
 -- what stands at the place, once it is passed
 abbrev pub invariant-loop-k : goal.invariant-loop-k
-invariant-loop-k l = l.found ≡ cond (ltb l.place l.k) (get_or l.table l.place 0) 0
+invariant-loop-k l = (l.place < l.k → l.found ≡ get_or l.table l.place 0) × (l.k ≤ l.place → l.found ≡ 0)

@@ -1,7 +1,0 @@
-use Rattle.std.proofs.Common.{rules}
-use Rattle.field.specs.Meaning.{coded}
-use Rattle.residues.proofs.residue.add.Goals as goal
-
-pub returns : goal.returns
-unfolding coded
-returns g c = search rules
