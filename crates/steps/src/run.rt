@@ -23,6 +23,7 @@ use window::BATCH;
 use window::batch::batch;
 
 /// δ, f and g, the rows (u, v) and (q, r) of the matrix, and scratch for the products with a batch's matrix.
+/// The bound of δ grows with each step, so the methods ask for it.
 #[derive(Drop)]
 pub(crate) struct Lists<'a> {
     pub delta: i32,
