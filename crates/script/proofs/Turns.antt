@@ -1,16 +1,29 @@
--- A draw of a script that is made is a step of the law.
--- Main results: `drew`.
-use Rattle.std.proofs.Common.{◌≡◌, ℕ, List, length, take, MatchResult, Ok, Err, Result, vec_items, arith}
+-- A call of a script that is made is a step of the law.
+-- Main results: `turned` of any call; `drew` of a draw, told by what it answered.
+use Rattle.std.proofs.Common.{◌≡◌, ℕ, List, length, take, MatchResult, Ok, Err, Result, vec_items, unwrap_or, arith}
 use Rattle.std.proofs.lemmas.Grind.{common_steps}
 use Rattle.std.specs.Result.{result_err}
 use Rattle.std.specs.Global.{Vec}
 use Rattle.refusal.specs.declared.Refusal.{Refusal}
 use Rattle.traylaw.specs.Calculus.{Calculus}
 use Rattle.traylaw.specs.Sheets.{room}
-use Rattle.traylaw.specs.Effects.{Phase.Closed as IsClosed, After, after_draw}
+use Rattle.traylaw.specs.Effects.{Phase, Phase.Closed as IsClosed, After, after_draw}
+use Rattle.traylaw.specs.Runs.{Call as TrayCall, Tray, Allowed, effect}
 use Rattle.script.specs.declared.scripts.Outcome.{Outcome}
-use Rattle.script.specs.declared.scripts.Outcome.TheVariants.{Refused, Drawn}
-use Rattle.script.specs.Events.{a_draw, Turn}
+use Rattle.script.specs.declared.scripts.Outcome.TheVariants.{NotAllowed, Refused, Drawn}
+use Rattle.script.specs.Events.{refusal_in, steps_in, quotient_in, output_of, a_draw, Turn}
+
+module _ (K : Calculus) (capacity : ℕ) (phase : Phase) (count : ℕ) (sheet : List ℕ) (c : TrayCall) where
+  -- the tray before the call
+  abbrev before : Tray
+  before = record { phase = phase; count = count; used = take (room K.degree capacity) sheet }
+
+  pub turned : (now : Tray) (left : List ℕ) (o : Outcome) → Allowed c phase → (o ≡ NotAllowed → ⊥) → refusal_in o ≡ (effect K capacity count sheet c).refusal →
+      steps_in o ≡ (effect K capacity count sheet c).report → unwrap_or (quotient_in o) (output_of c) ≡ (effect K capacity count sheet c).out →
+      now.phase ≡ (effect K capacity count sheet c).phase → now.count ≡ (effect K capacity count sheet c).count →
+      now.used ≡ take (room K.degree capacity) left → left ≡ (effect K capacity count sheet c).sheet → length left ≡ length sheet →
+      Turn K capacity before c (length sheet) o now
+  turned now left o allowed made refusal report out phase-is count-is used left_is long = grind (arith, common_steps)
 
 module _ (K : Calculus) (capacity count : ℕ) (sheet : List ℕ) where
   abbrev does : List ℕ → ℕ → After
