@@ -1,30 +1,15 @@
 -- The products on their shelves: they leave the entries after them, are erased by zeros, the last first, and what is put over the last one of them.
 -- Main results: `denominator_kept`, `erased_one`, `closed_as_defined`.
-use Rattle.std.proofs.Common.{Some, is_some, unwrap_or, ◌≡◌, ℕ, zero, suc, ◌+◌, ◌-◌, ◌*◌, ◌<◌, ◌≤◌, List, [], ◌++◌, length, take, drop, replicate, sym, refl, ap, ◌∙◌, subst, ap₂, add-one, arith}
-use Rattle.std.proofs.lemmas.List.{take_at, drop-drop, length-drop, length-take-le, length-replicate, take-append-drop}
+use Rattle.std.proofs.Common.{Some, is_some, unwrap_or, ◌≡◌, ℕ, zero, suc, ◌+◌, ◌-◌, ◌*◌, ◌<◌, ◌≤◌, List, [], length, drop, replicate, sym, ap, ◌∙◌, subst, ap₂, add-one, arith}
+use Rattle.std.proofs.lemmas.List.{length-replicate}
 use Rattle.traylaw.specs.Calculus.{Calculus, Polynomial, Lawful}
 use Rattle.traylaw.specs.Sheets.{written, room, shelf, shelved, denominator_at, product_at}
 use Rattle.refusal.specs.declared.Refusal.TheVariants.{NoInverse}
 use Rattle.refusal.specs.Questions.{asked}
 use Rattle.divstep.specs.ReadOff.{inversion_steps}
 use Rattle.traylaw.specs.Effects.{granted, product, first_uninvertible, with_products, inverse_asked, close_sheet}
-use Rattle.tray.proofs.Places.{shelf_within, entry_within, next_entry, past, behind, shelf_behind, shelved_length}
+use Rattle.tray.proofs.Places.{shelf_within, entry_within, overwritten, rewritten, next_entry, behind, shelf_behind, shelved_length}
 use Rattle.tray.proofs.Closings.{product_is, products_none, products_more}
-
--- writing over what was just written, and writing what stands there already
-overwritten : (k : ℕ) (a b s : List ℕ) → length a ≡ length b → k + length a ≤ length s → written k b (written k a s) ≡ written k b s
-overwritten k a b s l h =
-    let kl : k ≤ length s = omega arith in
-    let j : k + length b ≡ k + length a = omega arith in
-    ap₂ (λ x y. x ++ (b ++ y)) (take_at (take k s) (a ++ drop (k + length a) s) k (length-take-le k s kl))
-    (ap (λ n. drop n (written k a s)) j ∙ past k (k + length a) a s refl h ∙ ap (λ n. drop n s) (sym j))
-
-rewritten : (p k : ℕ) (b s : List ℕ) → k + p ≤ length s → take p (drop k s) ≡ b → written k b s ≡ s
-rewritten p k b s h e =
-    let l : p ≤ length (drop k s) = omega (arith, length-drop k s) in
-    let long : length b ≡ p = ap length (sym e) ∙ length-take-le p (drop k s) l in
-    ap₂ (λ x y. take k s ++ (x ++ y)) (sym e) (ap (λ n. drop (k + n) s) long ∙ sym (drop-drop p k s))
-    ∙ ap (λ y. take k s ++ y) (take-append-drop p (drop k s)) ∙ take-append-drop k s
 
 module _ {K : Calculus} (L : Lawful K) (capacity : ℕ) (sheet : List ℕ) (long : room K.degree capacity ≤ length sheet) where
   -- the sheet with its first products is as long, and the entries after them are as they were
@@ -48,20 +33,6 @@ module _ {K : Calculus} (L : Lawful K) (capacity : ℕ) (sheet : List ℕ) (long
   pub denominator_kept : (i : ℕ) → i ≤ capacity → denominator_at K.degree i (with_products K i sheet) ≡ denominator_at K.degree i sheet
   denominator_kept i h = shelf_behind K.degree i 1 (with_products K i sheet) sheet (kept i h).1
 
-  -- zeros on the last product shelf that was written, where there were zeros before
-  pub erased_one : (i : ℕ) → i < capacity → product_at K.degree i sheet ≡ replicate K.degree 0 → shelved K.degree (3 * i + 2) (replicate K.degree 0) (with_products K (i + 1) sheet) ≡ with_products K i sheet
-  unfolding shelf shelved
-  erased_one i h z =
-      let p = K.degree in
-      let before = kept i (omega arith) in
-      let poly = product K (i + 1) sheet in
-      let l : length poly ≡ p = (product_is K sheet L i).long in
-      let lz : length (replicate {A = ℕ} p 0) ≡ p = length-replicate p 0 in
-      let fits : (3 * i + 2) * p + p ≤ length (with_products K i sheet) = omega (arith, before.0, shelf_within p capacity (3 * i + 2) (omega arith)) in
-      ap (written ((3 * i + 2) * p) (replicate p 0)) (products_more K sheet i)
-      ∙ overwritten ((3 * i + 2) * p) poly (replicate p 0) (with_products K i sheet) (l ∙ sym lz) (omega arith)
-      ∙ rewritten p ((3 * i + 2) * p) (replicate p 0) (with_products K i sheet) fits (shelf_behind p i 2 (with_products K i sheet) sheet before.1 ∙ z)
-
   -- a list over the last product that was put on its shelf: that product need not have been put there
   over_last : (i : ℕ) → i < capacity → (b : List ℕ) → length b ≡ K.degree →
       shelved K.degree (3 * i + 2) b (with_products K (i + 1) sheet) ≡ shelved K.degree (3 * i + 2) b (with_products K i sheet)
@@ -73,6 +44,16 @@ module _ {K : Calculus} (L : Lawful K) (capacity : ℕ) (sheet : List ℕ) (long
       let l : length poly ≡ p = (product_is K sheet L i).long in
       let fits : (3 * i + 2) * p + p ≤ length (with_products K i sheet) = omega (arith, before.0, shelf_within p capacity (3 * i + 2) (omega arith)) in
       ap (written ((3 * i + 2) * p) b) (products_more K sheet i) ∙ overwritten ((3 * i + 2) * p) poly b (with_products K i sheet) (l ∙ sym lb) (omega arith)
+
+  -- zeros on the last product shelf that was written, where there were zeros before
+  pub erased_one : (i : ℕ) → i < capacity → product_at K.degree i sheet ≡ replicate K.degree 0 → shelved K.degree (3 * i + 2) (replicate K.degree 0) (with_products K (i + 1) sheet) ≡ with_products K i sheet
+  unfolding shelf shelved
+  erased_one i h z =
+      let p = K.degree in
+      let before = kept i (omega arith) in
+      let fits : (3 * i + 2) * p + p ≤ length (with_products K i sheet) = omega (arith, before.0, shelf_within p capacity (3 * i + 2) (omega arith)) in
+      over_last i h (replicate p 0) (length-replicate p 0)
+      ∙ rewritten p ((3 * i + 2) * p) (replicate p 0) (with_products K i sheet) fits (shelf_behind p i 2 (with_products K i sheet) sheet before.1 ∙ z)
 
   -- the products of all entries but the last, and on the last product shelf the inverse of the product of all, are what a close leaves
   pub closed_as_defined : (n : ℕ) → 1 ≤ n → n ≤ capacity → (inverse was now : List ℕ) → K.inverse (product K n sheet) ≡ Some inverse →

@@ -1,7 +1,8 @@
 -- Places on a sheet: which shelves it reaches, and writes side by side.
--- Main results: `shelf_within`, `entry_within`; `shelf_long`, `shelved_length`; `entry_put`; `behind`, `shelf_behind`.
-use Rattle.std.proofs.Common.{◌≡◌, ℕ, ◌+◌, ◌*◌, ◌<◌, ◌≤◌, List, ◌++◌, length, take, drop, replicate, sym, ap, ◌∙◌, ap₂, add-mul, mul-add, mul_assoc, mul_comm, mul-le-mul_left, mul-suc, mul_right_comm, arith}
-use Rattle.std.proofs.lemmas.List.{take_at, drop_at, drop-drop, append_assoc, length-append, length-drop, length-take, length-take-le}
+-- Main results: `shelf_within`, `entry_within`; `shelf_long`, `shelved_length`; `entry_put`; `overwritten`, `rewritten`; `behind`, `shelf_behind`.
+use Rattle.std.proofs.Common.{◌≡◌, ℕ, ◌+◌, ◌*◌, ◌<◌, ◌≤◌, List, ◌++◌, length, take, drop, replicate, sym, refl, ap, ◌∙◌, ap₂, add-mul, mul-add, mul_assoc, mul_comm, mul-le-mul_left, mul-suc, mul_right_comm, arith}
+use Rattle.std.proofs.lemmas.Slice.{take-put_mid, take-put_mid_below, drop-put_mid}
+use Rattle.std.proofs.lemmas.List.{take-append-drop, drop-drop, append_assoc, length-append, length-drop, length-take, length-take-le}
 use Rattle.traylaw.specs.Sheets.{written, room, shelf, shelved, put_sheet}
 
 -- a shelf of an entry ends within the tray's part of the sheet, and so do an entry's three
@@ -16,17 +17,29 @@ pub shelf_long : (p k : ℕ) (s : List ℕ) → k * p + p ≤ length s → lengt
 unfolding shelf
 shelf_long p k s h = length-take-le p (drop (k * p) s) (simp length-drop (omega arith))
 
+-- what lies behind a write stays
+past : (k m : ℕ) (a s : List ℕ) → k + length a ≤ m → k ≤ length s → drop m (written k a s) ≡ drop m s
+past k m a s e h = ap (λ l. drop m (take k s ++ (a ++ l))) (sym (drop-drop (length a) k s)) ∙ drop-put_mid k (length a) s a m e h refl
+
 -- one write after another, side by side
 beside : (k j : ℕ) (a b s : List ℕ) → j ≡ k + length a → j ≤ length s → written j b (written k a s) ≡ written k (a ++ b) s
 beside k j a b s e h =
-    let kl : k ≤ length s = omega arith in
-    let front : length (take k s ++ a) ≡ j = length-append (take k s) a ∙ omega (arith, length-take-le k s kl) in
     let same : j + length b ≡ k + length (a ++ b) = omega (arith, length-append a b) in
-    let t : written k a s ≡ (take k s ++ a) ++ drop j s = sym (append_assoc (take k s) a _) ∙ ap (λ i. (take k s ++ a) ++ drop i s) (sym e) in
-    ap₂ ◌++◌ (ap (take j) t ∙ take_at (take k s ++ a) (drop j s) j front)
-    (ap (λ l. b ++ l) (sym (drop-drop (length b) j (written k a s)) ∙ ap (λ l. drop (length b) (drop j l)) t
-    ∙ ap (drop (length b)) (drop_at (take k s ++ a) (drop j s) j front) ∙ drop-drop (length b) j s ∙ ap (λ i. drop i s) same))
+    ap₂ (λ x y. x ++ (b ++ y)) (ap (λ l. take j (take k s ++ (a ++ l))) (sym (drop-drop (length a) k s)) ∙ take-put_mid k (length a) s a j e (omega arith))
+    (past k (j + length b) a s (omega arith) (omega arith) ∙ ap (λ i. drop i s) same)
     ∙ simp append_assoc
+
+-- a write over what was just written, and of what stands there already
+pub overwritten : (k : ℕ) (a b s : List ℕ) → length a ≡ length b → k ≤ length s → written k b (written k a s) ≡ written k b s
+overwritten k a b s l h =
+    ap₂ (λ x y. x ++ (b ++ y)) (ap (λ t. take k (take k s ++ (a ++ t))) (sym (drop-drop (length a) k s)) ∙ take-put_mid_below k (length a) s a k (omega arith) h)
+    (past k (k + length b) a s (omega arith) h)
+
+pub rewritten : (p k : ℕ) (b s : List ℕ) → k + p ≤ length s → take p (drop k s) ≡ b → written k b s ≡ s
+rewritten p k b s h e =
+    let long : length b ≡ p = ap length (sym e) ∙ length-take-le p (drop k s) (simp length-drop (omega arith)) in
+    ap₂ (λ x y. take k s ++ (x ++ y)) (sym e) (ap (λ n. drop (k + n) s) long ∙ sym (drop-drop p k s))
+    ∙ ap (λ y. take k s ++ y) (take-append-drop p (drop k s)) ∙ take-append-drop k s
 
 -- an entry put on its three shelves, one after another
 pub entry_put : (p i : ℕ) (num den s : List ℕ) → length num ≡ p → length den ≡ p → 3 * i * p + 3 * p ≤ length s →
@@ -40,14 +53,6 @@ entry_put p i num den s n d h =
     ∙ beside at ((3 * i + 2) * p) (num ++ den) (replicate p 0) s (omega (arith, length-append num den)) (omega arith)
     ∙ ap (λ (t : List ℕ). written at t s) (append_assoc num den (replicate p 0))
 
--- what lies behind a write stays
-pub past : (k m : ℕ) (a s : List ℕ) → m ≡ k + length a → m ≤ length s → drop m (written k a s) ≡ drop m s
-past k m a s e h =
-    let kl : k ≤ length s = omega arith in
-    let front : length (take k s ++ a) ≡ m = length-append (take k s) a ∙ omega (arith, length-take-le k s kl) in
-    let t : written k a s ≡ (take k s ++ a) ++ drop m s = sym (append_assoc (take k s) a _) ∙ ap (λ i. (take k s ++ a) ++ drop i s) (sym e) in
-    ap (drop m) t ∙ drop_at (take k s ++ a) (drop m s) m front
-
 pub next_entry : (i p : ℕ) → 3 * (i + 1) * p ≡ 3 * i * p + 3 * p
 next_entry i p = omega (arith, mul_right_comm 3 (i + 1) p, mul_right_comm 3 i p, mul-add (3 * p) i 1)
 
@@ -58,7 +63,7 @@ unfolding shelved
 behind p i a s t l h e =
     let m : 3 * (i + 1) * p ≡ 3 * i * p + 3 * p = next_entry i p in
     let k : 3 * (i + 1) * p ≡ (3 * i + 2) * p + length a = omega (arith, add-mul (3 * i) 2 p) in
-    past ((3 * i + 2) * p) (3 * (i + 1) * p) a s k h
+    past ((3 * i + 2) * p) (3 * (i + 1) * p) a s (omega arith) (omega arith)
     ∙ ap (λ n. drop n s) m ∙ sym (drop-drop (3 * p) (3 * i * p) s) ∙ ap (drop (3 * p)) e ∙ drop-drop (3 * p) (3 * i * p) t ∙ ap (λ n. drop n t) (sym m)
 
 -- and so do their shelves, shelf j of entry i + 1 being shelf 3i + j

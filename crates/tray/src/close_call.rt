@@ -33,6 +33,7 @@ impl OpenTray {
         ensures entries_stay { MatchResult result (λ t. (t.0.p ≡ self.p) × (t.0.capacity ≡ self.capacity) × (t.0.count ≡ self.count)) (λ t. t.0 ≡ self) }
     {
         let guard = Wipe { scratch };
+        // A `match`, since each arm moves the tray.
         match self.close_on::<F>(sheet, guard.scratch) {
             Ok(steps) => {
                 let Tray {
@@ -71,7 +72,7 @@ impl OpenTray {
 }
 
 impl Shelves<'_> {
-    /// Closes a tray whose product shelves are blank.
+    /// Closes a tray whose product shelves are blank: the products are put there on the way to the inverse.
     fn close_blank<F: Field>(&mut self, count: usize, scratch: &mut [u16]) -> Result<u32, Refusal>
         requires some { 1 ≤ count }
         requires within { count ≤ self.old.capacity }
@@ -94,7 +95,7 @@ impl Shelves<'_> {
         Ok(self.inversion_steps())
     }
 
-    /// Closes a tray to whose product shelves other code has written.
+    /// Closes a tray to whose product shelves other code has written: they stay until the inverse is there.
     fn close_written<F: Field>(&mut self, count: usize, scratch: &mut [u16]) -> Result<u32, Refusal>
         requires some { 1 ≤ count }
         requires within { count ≤ self.old.capacity }

@@ -34,6 +34,7 @@ impl Shelves<'_> {
         ensures multiplied { out.new ≡ times (calculus F.Field.arithmetic F.Field.recip self.now.p) a.now b.now }
         ensures polynomial { Polynomial (calculus F.Field.arithmetic F.Field.recip self.now.p) out.new }
     {
+        // All that it asks holds, so it is not refused.
         let _ = product::<F>(self.p, a, b, out);
     }
 
