@@ -10,6 +10,7 @@ use Rattle.traylaw.specs.Calculus.{Calculus, Polynomial, Lawful, times}
 use Rattle.traylaw.specs.Sheets.{room, shelved, denominator_at}
 use Rattle.tray.proofs.Places.{shelf_within, shelf_long}
 use Rattle.tray.proofs.Tests.{passing, passing_more, passes}
+use Rattle.tray.specs.Inverses.{Found}
 use Rattle.traylaw.specs.Effects.{product, coded_denominators, earlier, unless_found, first_uninvertible, with_products}
 
 -- an inverse is found in the first places of a longer list exactly when such a list is found
@@ -45,9 +46,9 @@ module _ (K : Calculus) (sheet : List ℕ) where
     codes = passes (λ k. all_codes K.size (denominator_at K.degree k sheet)) n i h (coded_passing n ∙ e);
   }
 
-  pub first_none : first_uninvertible K 0 sheet ≡ 0
+  pub first_of_none : first_uninvertible K 0 sheet ≡ 0
   unfolding first_uninvertible
-  first_none = refl
+  first_of_none = refl
 
   found_is : (o : Option (List ℕ)) (i : ℕ) → is_some o ≡ true → unless_found o i ≡ 0
   found_is (Some b) i e = refl
@@ -61,6 +62,11 @@ module _ (K : Calculus) (sheet : List ℕ) where
   pub first_more : (i : ℕ) → first_uninvertible K i sheet ≡ 0 → is_some (K.inverse (denominator_at K.degree i sheet)) ≡ true → first_uninvertible K (i + 1) sheet ≡ 0
   unfolding first_uninvertible
   first_more i e h = ap (λ n. first_uninvertible K n sheet) (add-one i) ∙ ap₂ earlier e (found_is _ (suc i) h)
+
+  -- where the first n denominators have inverses, none of them is named
+  pub first_none : (n : ℕ) → Found K sheet n → first_uninvertible K n sheet ≡ 0
+  first_none zero h = first_of_none
+  first_none (suc n) h = ap (λ m. first_uninvertible K m sheet) (sym (add-one n)) ∙ first_more n (first_none n (λ k l. h k (omega arith))) (h n (omega arith))
 
   pub first_at : (n i : ℕ) → i < n → first_uninvertible K i sheet ≡ 0 → is_some (K.inverse (denominator_at K.degree i sheet)) ≡ false → first_uninvertible K n sheet ≡ i + 1
   unfolding first_uninvertible
@@ -81,4 +87,4 @@ module _ (K : Calculus) (sheet : List ℕ) where
   products_more i =
       ap (λ n. with_products K n sheet) (add-one i) ∙ ap (λ n. shelved K.degree (3 * i + 2) (product K n sheet) (with_products K i sheet)) (sym (add-one i))
 
-pub ruleset searched = (found_in, first_none, first_more, first_at)
+pub ruleset searched = (found_in, first_of_none, first_more, first_at)

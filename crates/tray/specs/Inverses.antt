@@ -1,6 +1,11 @@
--- What a close counts on: which product shelves are blank, and how long a scratch is.
-use Rattle.std.specs.Prelude.{◌≡◌, ℕ, ◌+◌, ◌*◌, ◌<◌, ◌≤◌, List, length, replicate}
-use Rattle.traylaw.specs.Sheets.{product_at}
+-- What a close counts on: which denominators have inverses, which product shelves are blank, and how long a scratch is.
+use Rattle.std.specs.Prelude.{◌≡◌, ℕ, ◌+◌, ◌*◌, ◌<◌, ◌≤◌, true, List, length, replicate, is_some}
+use Rattle.traylaw.specs.Calculus.{Calculus}
+use Rattle.traylaw.specs.Sheets.{denominator_at, product_at}
+
+-- inverses of the first n denominators are found
+abbrev pub Found : Calculus → List ℕ → ℕ → Type 0
+Found K sheet n = (k : ℕ) → k < n → is_some (K.inverse (denominator_at K.degree k sheet)) ≡ true
 
 -- the product shelves of the first n entries hold zeros
 abbrev pub Blank : ℕ → List ℕ → ℕ → Type 0
