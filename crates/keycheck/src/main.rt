@@ -14,7 +14,7 @@ const P: usize = 761;
 fn main(rt: HostRuntime) -> io::Result<()> {
     let mut text = Vec::new(rt.alloc());
     rt.stdin().read_to_end(&mut text)?;
-    // Four lists and no struct of them, as `read_key` takes them.
+    // Four lists, which `read_key` and the two checks borrow in turn.
     let mut g = [0u16; P];
     let mut f = [0u16; P];
     let mut v = [0u16; P];

@@ -1,6 +1,6 @@
 //! The check of a key: h times 3f is g over Z_4591, and v times g is 1 over Z_3.
 
-ghost use Rattle.std.specs.Prelude.{◌≡◌, ◌<◌, length, IfOk};
+ghost use Rattle.std.specs.Prelude.{◌≡◌, ◌≤◌, length, IfOk};
 ghost use Rattle.std.specs.List.{AllZip};
 ghost use Rattle.std.specs.Result.{result_err};
 ghost use Rattle.refusal.specs.Questions.{first_no};
@@ -102,7 +102,7 @@ fn map_to<F: Fn(u16) -> u16>(a: &[u16], change: F, out: &mut [u16])
 /// Writes the polynomial 1.
 #[tactic(auto, using(crate::proofs::Agreement::one_written))]
 fn write_one(out: &mut [u16])
-    requires { 0 < length out.old }
+    requires { 2 ≤ length out.old }
     ensures { out.new ≡ unit (coded (residues 3)) (length out.old) }
 {
     out.fill(0);
