@@ -10,8 +10,8 @@ use crate::line::{read_numbers, read_trits};
 use crate::malformed::{Line, Malformed};
 
 /// Reads the text of a key whose lists have as many numbers as the outputs: g, f and v are trits, and h
-/// holds codes of Z_4591. The lists are the caller's memory and
-/// come one by one: a struct of four borrowed lists would be made for this call alone, and be taken apart in it.
+/// holds codes of Z_4591. The lists are the caller's memory and come one by one: a struct of four borrowed
+/// lists would be made for this call alone, and be taken apart in it.
 pub fn read_key(
     text: &[u8],
     g: &mut [u16],
