@@ -44,6 +44,7 @@ fn run(rt: &HostRuntime) -> io::Result<()> {
 
 /// Follows one line: it goes to the tray that is there, or is answered at once where there is none.
 fn follow(rt: &HostRuntime, session: Option<Session>, text: &[u8]) -> io::Result<Option<Session>> {
+    // No `?`: of the two errors one is an answer, and the other ends the program.
     let line = match read_line(rt.alloc(), text) {
         Ok(line) => Some(line),
         Err(Unread::NotUnderstood) => None,

@@ -55,6 +55,7 @@ impl Session {
         sheet: Vec<u16>,
     ) -> io::Result<Option<Session>> {
         let mut copy = sheet.clone()?;
+        // No `?`: of the two errors one is printed, and the other ends the program.
         match replay(rt.alloc(), shape, &[], &mut copy) {
             Ok(_) => Ok(Some(Session {
                 shape,

@@ -15,7 +15,8 @@ use crate::questions::ask_operands;
 use field::Field;
 use refusal::Refusal;
 
-/// The product of two polynomials of p codes, by the rule x^p = x + 1.
+/// The product of two polynomials of p codes, by the rule x^p = x + 1. (Shaped as `sum`, a question and the work: a
+/// function for both would take the work as a closure and be longer.)
 pub fn product<F: Field>(p: usize, a: &[u16], b: &[u16], out: &mut [u16]) -> Result<(), Refusal>
     ensures refused_as_asked { result_err result ≡ first_no (operands_asked F.Field.arithmetic.size p a.now b.now (length out.old)) }
     ensures out_is_product { out.new ≡ (if is_ok result then product_of (coded F.Field.arithmetic) p a.now b.now else out.old) }

@@ -48,6 +48,7 @@ impl State {
         ensures entries_left { result ≡ (tray_of self sheet.old).count }
         ensures shelves_zero { sheet.new ≡ clear_sheet (degree_of self) (capacity_of self) sheet.old }
     {
+        // The arms look alike, but their trays differ in type.
         match self {
             State::Open(tray) => tray.burn(owed, sheet),
             State::Closed(tray) => tray.burn(owed, sheet),
@@ -75,7 +76,7 @@ fn put<F: Field>(
     (State::Open(tray), Ok(outcome_of(answer, Outcome::Accepted)))
 }
 
-/// A take back on an open tray.
+/// A take back on an open tray. (As short as a put: a function for both would take the call as a closure.)
 fn take_back<F: Field>(mut tray: OpenTray, sheet: &mut [u16]) -> Turned
     ensures { TurnOf (calculus F.Field.arithmetic F.Field.recip) (State.Open tray) sheet.old a_take_back result.1 result.0 sheet.new }
 {
@@ -91,6 +92,7 @@ fn close<F: Field>(heap: Global, tray: OpenTray, room: usize, sheet: &mut [u16])
         Ok(scratch) => scratch,
         Err(error) => return (State::Open(tray), Err(error)),
     };
+    // No `map`: each arm moves its tray, and a closure for each would say no more.
     match tray.close::<F>(sheet, &mut scratch) {
         Ok((closed, steps)) => (State::Closed(closed), Ok(Outcome::Closed { steps })),
         Err((open, refusal)) => (State::Open(open), Ok(Outcome::Refused(refusal))),
