@@ -96,13 +96,13 @@ fn in_turn(first: u16, second: u16) -> u16x64
     u16x2::from_array([first, second]).swizzle(TWOS)
 }
 
-/// How many pairs the rows are, without those that begin past the window from `base` on.
-fn end_pair(base: usize, rows: usize) -> usize
-    requires { base < 4096 }
+/// How many pairs the rows are, without those that begin past window i.
+fn end_pair(i: usize, rows: usize) -> usize
+    requires { i < 128 }
     ensures most { 2 * result ≤ rows }
-    ensures enough { 2 * result + 1 < rows → base + 32 ≤ 2 * result }
+    ensures enough { 2 * result + 1 < rows → 32 * i + 32 ≤ 2 * result }
 {
-    ((base + 33) / 2).min(rows / 2)
+    (16 * (i + 1)).min(rows / 2)
 }
 
 /// Adds the lanes to the 32 numbers of a window, modulo `Q`.
@@ -150,14 +150,12 @@ where
         Pairs { b, numbers }
     }
 
-    /// The first pair of rows that reaches the window from `base` on.
-    /// (`saturating_sub` takes two instructions more for each window.)
-    fn first_pair(&self, base: usize) -> usize
-        requires { base < 4096 }
-        ensures { 0 < result → length self.now.b.now + 2 * result ≤ base + 1 }
+    /// The first pair of rows that reaches window i.
+    fn first_pair(&self, i: usize) -> usize
+        requires { i < 128 }
+        ensures { 0 < result → length self.now.b.now + 2 * result ≤ 32 * i + 1 }
     {
-        let len = self.b.len();
-        if base < len { 0 } else { (base + 1 - len) / 2 }
+        (16 * i).saturating_sub(self.b.len() / 2)
     }
 
     /// How many windows `rows` rows times b reach. (`div_ceil` takes a test more.)
@@ -181,7 +179,7 @@ where
         let base = 32 * i;
         let mut sums = u32x32::splat(0);
         // m is counted, since it goes up the rows and down the pairs at once.
-        for m in self.first_pair(base)..end_pair(base, rows.len()) {
+        for m in self.first_pair(i)..end_pair(i, rows.len()) {
             let met = u16x64::from_slice(&pairs[2 * base + 4 * (95 - m)..]);
             sums = plus(
                 sums,
