@@ -81,6 +81,7 @@ fn time_inverse<F: Field>(
     let mut found = 0u32;
     Generator::new(3).fill::<F>(&mut a);
     let nanos = time_call(rt, "an inversion", INVERSIONS, || {
+        // No `?`: one of the refusals is a result here.
         match inverse::<F>(p, &a, &mut out, &mut scratch) {
             Ok(_) => {
                 found = found.saturating_add(1);

@@ -15,6 +15,7 @@ mod tests {
         read_trits(Line::G, text, &mut out)
     }
 
+    // As `trits`, of the other reader.
     fn numbers(text: &[u8]) -> Result<(), Malformed> {
         let mut out = [0u16; 3];
         read_numbers(Line::H, text, &mut out)

@@ -46,6 +46,7 @@ const TWOS: [usize; 64] = [
 ];
 
 /// The same numbers, each below 2^15: by way of signed numbers, so that the compiler sees that they are.
+/// (Here and below the bound is asked, since the lanes have the processor's own type.)
 fn widen(x: u16x64) -> u32x64
     requires { AtMost 32767 x }
     ensures { result ≡ x }

@@ -3,6 +3,7 @@
 //! The product is the plain product of the two lists, 2p − 1 coefficients, folded by the rule
 //! x^p = x + 1: coefficient p + k comes back at k and at k + 1. One coefficient more is asked of the
 //! plain product, which is 0, so that each place of the fold reads alike.
+//! The lengths of the lists are asked by `requires`, since the type of a slice has no length.
 
 ghost use Rattle.std.specs.Prelude.{◌≡◌, ◌+◌, ◌-◌, ◌<◌, ◌≤◌, length, is_ok, if◌then◌else◌, slice_index};
 ghost use Rattle.std.specs.Result.{result_err};

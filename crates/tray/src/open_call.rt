@@ -7,7 +7,7 @@ ghost use Rattle.traylaw.specs.Effects.{after_open};
 use crate::shelves::ask_sheet;
 use crate::trays::{BurnOwed, OpenTray, Tray};
 use refusal::Refusal;
-use ring::{GREATEST_DEGREE, LEAST_DEGREE};
+use ring::Degree;
 use std::marker::PhantomData;
 
 /// The greatest capacity of a tray.
@@ -19,9 +19,7 @@ pub fn open(p: usize, capacity: usize, sheet: &mut [u16]) -> Result<(OpenTray, B
     ensures sheet_cleared { sheet.new ≡ (after_open p capacity sheet.old).sheet }
     ensures tray_empty { IfOk result (λ t. (t.0.p ≡ p) × (t.0.capacity ≡ capacity) × (t.0.count ≡ 0)) }
 {
-    if !(LEAST_DEGREE..=GREATEST_DEGREE).contains(&p) {
-        return Err(Refusal::Degree);
-    }
+    Degree::try_from(p)?;
     if !(1..=GREATEST_CAPACITY).contains(&capacity) {
         return Err(Refusal::Capacity);
     }

@@ -34,6 +34,7 @@ impl Shelf {
 }
 
 /// A sheet that a tray is lent, cut into shelves of p numbers: three for each entry that the tray can hold.
+/// That an entry or a shelf is one of these, and holds codes, is asked by each method: a number alone can't say so.
 #[derive(Drop)]
 pub(crate) struct Shelves<'a> {
     sheet: &'a mut [u16],
@@ -118,7 +119,7 @@ impl Shelves<'_> {
         self.sheet[at..at + self.p].copy_from_slice(poly);
     }
 
-    /// Fills a shelf with zeros.
+    /// Fills a shelf with zeros. (As `put_on`, but with no list to copy.)
     #[tactic(auto, using(std::proofs::lemmas::Slice::overwrites), unfolding(traylaw::specs::Sheets::shelved))]
     pub(crate) fn zero_shelf(&mut self, which: Shelf)
         requires { number_of which < 3 * self.old.capacity }
