@@ -15,6 +15,23 @@ from pathlib import Path
 FUNCTION = re.compile(r'^ *(?:pub(?:\(crate\))? )?(?:final )?fn (\w+)', re.M)
 
 
+POINTS = [
+    '1a own enums',
+    '1b matches that rebuild a Result or an Option',
+    '1c a bool beside what is written',
+    '1d numbers for refusals and kinds',
+    '2 bodies of the same shape',
+    '3 loops over a range of indices',
+    '4a comparisons, copies, conversions and printing in impls',
+    '4b conversions, copies and printing in functions',
+    '5a facts that three or more functions require',
+    '5b three parameters that three or more functions take together',
+    '6 buffers, arrays and lists beside one another',
+    '7 switches on which step to run, and tables of functions',
+    '8 answers in proofs/',
+]
+
+
 def functions(text):
     """The functions of a file: name, signature with its clauses, body, line."""
     for found in FUNCTION.finditer(text):
@@ -54,7 +71,7 @@ def main():
     shown = '--list' in sys.argv
     top = Path(words[0]) if words else Path(__file__).resolve().parent.parent
     files = sorted(top.glob('crates/*/src/*.rt'))
-    places = defaultdict(list)
+    places = {point: [] for point in POINTS}
     shapes, facts, travel = defaultdict(list), defaultdict(set), defaultdict(list)
     for path in files:
         text = path.read_text()
