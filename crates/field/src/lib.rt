@@ -57,6 +57,7 @@ pub trait Field {
                 *x = Self::add(at(a, i), at(b, i));
             }
         } else {
+            // By index: of a `zip` of `out` a contract would not know what was written.
             for (k, x) in out.iter_mut().enumerate() {
                 *x = Self::add(a[k], b[k]);
             }

@@ -52,6 +52,7 @@ fn compare<F: Field>(p: Degree, a: &[u16], b: &[u16], expected: &[u16]) -> Resul
     ensures all_is_equal { IfOk result (EqualAtAll p (product_of (coded F.Field.arithmetic) p a.now b.now) expected.now) }
 {
     let p = p.get();
+    // There is no heap here: an array has room for the greatest degree, and the first p places are used.
     let mut found = [0u16; GREATEST_DEGREE];
     let found = &mut found[0..p];
     product::<F>(p, a, b, found)?;
@@ -80,7 +81,7 @@ fn lift(t: u16) -> u16
     if t == 2 { 4590 } else { t }
 }
 
-/// Three times a trit, as a code of Z_4591.
+/// Three times a trit, as a code of Z_4591. (`lift` and this one say a definition each.)
 fn triple(t: u16) -> u16
     ensures { result ≡ triple_of t }
 {

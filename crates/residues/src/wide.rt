@@ -115,6 +115,7 @@ where
     ensures { (l : ℕ) → l < 32 → slice_index window.new l ≡ (slice_index window.old l + slice_index lanes l) % Q }
 {
     let sums = lanes.to_array();
+    // By index: of a `zip` of `window` a contract would not know what was written.
     for (l, x) in window.iter_mut().enumerate() {
         *x = ((*x as u32 + sums[l]) % Q as u32) as u16;
     }
@@ -227,6 +228,7 @@ fn codes<const Q: u16>(a: &[u16], rows: &mut [u16])
     requires zeros { AllZero rows.old }
     ensures { (k : ℕ) → slice_index rows.new k ≡ code Q (slice_index a.now k) }
 {
+    // By index: of a `zip` of `rows` a contract would not know what was written.
     for (i, x) in a.iter().enumerate() {
         rows[i] = read::<Q>(*x);
     }
@@ -248,8 +250,10 @@ where
     requires room { length out.old ≤ SUMS }
     ensures { out.new ≡ convolution (coded (residues Q)) (length out.old) a.now b.now }
 {
+    // There is no heap here: the arrays have room for the longest lists that the kernel takes.
     let mut numbers = [0; NUMBERS];
     let pairs = Pairs::<Q>::new(b, &mut numbers);
+    // There is no heap here: the arrays have room for the longest lists that the kernel takes.
     let mut rows = [0; ROWS];
     codes::<Q>(a, &mut rows);
     let mut sums = [0; SUMS];

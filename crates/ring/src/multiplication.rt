@@ -12,6 +12,7 @@ ghost use Rattle.field.specs.Meaning.{coded};
 ghost use Rattle.ring.specs.Asked.{operands_asked};
 ghost use Rattle.ring.specs.Polynomials.{product as product_of, fold as fold_of};
 
+use crate::degree::GREATEST_DEGREE;
 use crate::questions::ask_operands;
 use field::Field;
 use refusal::Refusal;
@@ -35,7 +36,8 @@ pub(crate) fn multiply<F: Field>(a: &[u16], b: &[u16], out: &mut [u16])
     requires right { length b.now ≡ length out.old }
     ensures { out.new ≡ product_of (coded F.Field.arithmetic) (length out.old) a.now b.now }
 {
-    let mut plain = [0u16; 2554];
+    // There is no heap here: an array has room for the greatest degree.
+    let mut plain = [0u16; 2 * GREATEST_DEGREE];
     let end = 2 * out.len();
     convolve::<F>(a, b, &mut plain[0..end], out);
 }

@@ -58,6 +58,7 @@ fn perform_all<F: Field>(
     for call in script {
         let (next, outcome) = state.perform::<F>(heap, call, sheet);
         state = next;
+        // No `?`: the tray comes back with the error, since a burn is owed for it.
         if let Err(error) = note(heap, &mut answers, outcome, sheet) {
             return (state, Err(error));
         }

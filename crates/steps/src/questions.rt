@@ -18,7 +18,7 @@ const MOST_DELTA: u32 = MOST_STEPS as u32;
 /// The greatest length of f and g.
 const MOST_LENGTH: usize = GREATEST_DEGREE + 1;
 
-/// Asks for a steps call; u, v, q, r and scratch are lengths.
+/// Asks for a steps call, argument by argument; u, v, q, r and scratch are lengths.
 pub(crate) fn ask_steps<F: Field>(
     delta: i32,
     n: usize,

@@ -15,7 +15,7 @@ use refusal::Refusal;
 use scratch::Wipe;
 
 /// Makes n division steps from δ, f and g. Returns δ after them; f and g are replaced, and u, v, q, r
-/// become the matrix of the steps.
+/// become the matrix of the steps. (Nine arguments, since the caller lends each list; inside they are one struct.)
 pub fn steps<F: Field>(
     delta: i32,
     n: usize,

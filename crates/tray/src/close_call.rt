@@ -96,6 +96,7 @@ impl Shelves<'_> {
     }
 
     /// Closes a tray to whose product shelves other code has written: they stay until the inverse is there.
+    /// (One function with `close_blank` would test three times which of the two it is.)
     fn close_written<F: Field>(&mut self, count: usize, scratch: &mut [u16]) -> Result<u32, Refusal>
         requires some { 1 ≤ count }
         requires within { count ≤ self.old.capacity }

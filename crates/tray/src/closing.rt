@@ -31,7 +31,7 @@ impl Shelves<'_> {
         (0..n).fold(true, |all, i| all & self.coded::<F>(Shelf::Denominator(i)))
     }
 
-    /// Multiplies a running product by the denominator of entry i + 1.
+    /// Multiplies a running product by the denominator of entry i + 1: `multiply` in place, by a copy.
     fn times_denominator<F: Field>(&self, i: usize, running: &mut [u16])
         requires within { i < self.now.capacity }
         requires running { Polynomial (calculus F.Field.arithmetic F.Field.recip self.now.p) running.old }
@@ -45,7 +45,7 @@ impl Shelves<'_> {
         self.multiply::<F>(before, self.shelf(Shelf::Denominator(i)), running);
     }
 
-    /// The product of the first n denominators.
+    /// The product of the first n denominators. (`write_products` makes it too, but writes to the sheet.)
     #[tactic(auto, using(crate::proofs::Closings::product_more))]
     pub(crate) fn multiply_denominators<F: Field>(&self, n: usize, whole: &mut [u16])
         requires some { 1 ≤ n }

@@ -48,6 +48,7 @@ impl Shelves<'_> {
         requires long_scratch { FitsInversion self.now.p scratch.old }
         ensures { option_map (take self.now.p) result ≡ (calculus F.Field.arithmetic F.Field.recip self.now.p).inverse a.now }
     {
+        // There is no heap here: an array has room for the greatest degree, and the first p places are used.
         let mut out = [0u16; GREATEST_DEGREE];
         inverse::<F>(self.p, a, &mut out[..self.p], scratch).ok()?;
         Some(out)

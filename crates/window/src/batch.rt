@@ -8,7 +8,8 @@ ghost use Rattle.window.specs.Windows.{held_in};
 use crate::window::{BATCH, Window};
 use field::Field;
 
-/// The first m steps, with their matrix, from δ and the first sixteen codes of f and g.
+/// The first m steps, with their matrix, from δ and the first sixteen codes of f and g. (What bounds δ grows with
+/// each step, so it is no invariant of a window.)
 pub fn batch<F: Field>(delta: i32, f: [u16; BATCH], g: [u16; BATCH], m: usize) -> Window
     requires short { m ≤ 16 }
     requires small { unsigned_abs delta ≤ 50000 }

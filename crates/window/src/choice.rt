@@ -71,6 +71,7 @@ impl Choice {
         ensures { result ≡ (if self then a.entry else b.entry) }
     {
         let mut out = [0; N];
+        // By index: of `from_fn` in a generic function a proof does not know the closure.
         for (k, x) in out.iter_mut().enumerate() {
             *x = self.pick(a[k], b[k]);
         }
