@@ -118,7 +118,8 @@ pub fn is_code<F: Field>(a: u16) -> bool
     a < F::size()
 }
 
-/// Whether each number of a list is a code. Every number is looked at, whatever was found before.
+/// Whether each number of a list is a code. Every number is looked at, whatever was found before. (No `fold`: of the
+/// loop a planted bug is refused in this function, and of a `fold` only in its proof.)
 pub fn all_codes<F: Field>(a: &[u16]) -> bool
     ensures { result ≡ all_codes F.Field.arithmetic.size a.now }
 {

@@ -100,7 +100,7 @@ fn map_to<F: Fn(u16) -> u16>(a: &[u16], change: F, out: &mut [u16])
     }
 }
 
-/// Writes the polynomial 1. (Two lines, as in `steps`: shared they would be a public function that asks by `requires`.)
+/// Writes the polynomial 1. (Two lines, as in `steps`: a function for both would be a public one of a lower crate.)
 #[tactic(auto, using(crate::proofs::Agreement::one_written))]
 fn write_one(out: &mut [u16])
     requires { 2 ≤ length out.old }

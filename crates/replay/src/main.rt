@@ -44,24 +44,20 @@ fn run(rt: &HostRuntime) -> io::Result<()> {
 
 /// Follows one line: it goes to the tray that is there, or is answered at once where there is none.
 fn follow(rt: &HostRuntime, session: Option<Session>, text: &[u8]) -> io::Result<Option<Session>> {
-    // No `?`: of the two errors one is an answer, and the other ends the program.
-    let line = match read_line(rt.alloc(), text) {
-        Ok(line) => Some(line),
-        Err(Unread::NotUnderstood) => None,
-        Err(Unread::NoMemory(error)) => return Err(error.into()),
-    };
+    let line = read_line(rt.alloc(), text);
     match session {
         Some(session) => session.follow(rt, line),
         None => begin(rt, line),
     }
 }
 
-/// Answers a line that is read while there is no tray, where `None` is a line that is not understood.
-fn begin(rt: &HostRuntime, line: Option<Line>) -> io::Result<Option<Session>> {
+/// Answers a line that is read while there is no tray.
+fn begin(rt: &HostRuntime, line: Result<Line, Unread>) -> io::Result<Option<Session>> {
     match line {
-        Some(Line::Tray { shape, sheet }) => return Session::open(rt, shape, sheet),
-        Some(Line::Call(_) | Line::Burn) => println!(rt; "not allowed")?,
-        None => println!(rt; "not understood")?,
+        Ok(Line::Tray { shape, sheet }) => return Session::open(rt, shape, sheet),
+        Ok(Line::Call(_) | Line::Burn) => println!(rt; "not allowed")?,
+        Err(Unread::NotUnderstood) => println!(rt; "not understood")?,
+        Err(Unread::NoMemory(error)) => return Err(error.into()),
     }
     Ok(None)
 }

@@ -1,6 +1,6 @@
 //! A tray that is there, with the lines that were read since it was opened.
 
-use crate::lines::{FieldName, Line, Shape};
+use crate::lines::{FieldName, Line, Shape, Unread};
 use crate::replies::{Numbers, Refused, Reply};
 use residues::{Z3, Z5, Z4591};
 use script::{Answer, Call, Replay, Stopped};
@@ -71,24 +71,24 @@ impl Session {
         }
     }
 
-    /// Follows one line, where `None` is a line that is not understood: a burn ends the session, and any other line is
-    /// noted.
+    /// Follows one line: a burn ends the session, and any other line is noted.
     pub(crate) fn follow(
         mut self,
         rt: &HostRuntime,
-        line: Option<Line>,
+        line: Result<Line, Unread>,
     ) -> io::Result<Option<Session>> {
         let note = match line {
-            Some(Line::Call(call)) => {
+            Ok(Line::Call(call)) => {
                 self.calls.push(call)?;
                 Note::Answer
             }
-            Some(Line::Tray { sheet: _sheet, .. }) => Note::NotAllowed,
-            Some(Line::Burn) => {
+            Ok(Line::Tray { sheet: _sheet, .. }) => Note::NotAllowed,
+            Ok(Line::Burn) => {
                 self.burn(rt)?;
                 return Ok(None);
             }
-            None => Note::NotUnderstood,
+            Err(Unread::NotUnderstood) => Note::NotUnderstood,
+            Err(Unread::NoMemory(error)) => return Err(error.into()),
         };
         self.notes.push(note)?;
         Ok(Some(self))

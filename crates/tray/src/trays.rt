@@ -13,7 +13,8 @@ pub enum Open {}
 pub enum Closed {}
 
 /// A tray in state `S`: the degree p of its polynomials, how many entries it can hold, and how many it holds. Its
-/// numbers are on a sheet, memory that the caller lends at each call.
+/// numbers are on a sheet, memory that the caller lends at each call. (p is a plain number with its bounds here: a
+/// `Degree` tells them only where it is asked, and proofs in other crates take them from the tray.)
 pub struct Tray<S> {
     pub(crate) p: usize,
     pub(crate) capacity: usize,
