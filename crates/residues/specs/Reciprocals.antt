@@ -1,5 +1,6 @@
 -- Reciprocals modulo q. Two tests that antt computes, each once: over a whole table, carried to each of its entries, and
 -- over all residues by their powers, which shows that each but 0 has a reciprocal.
+-- It is in specs/, since an implementation of a trait cannot cite the proofs of its own crate.
 -- Main results: `table_entry`, `powers_invert`.
 use Rattle.std.specs.Prelude.{◌≡◌, ℕ, zero, suc, ◌+◌, ◌*◌, ◌%◌, ◌^◌, ◌<◌, ◌≤◌, Bool, true, false, cond, ◌&&◌, T, ◌≢◌, List, [], ◌∷◌, length, Some, None, ◌==◌, nat_lt, slice_index, slice_index_or}
 use Rattle.std.proofs.Math.Path.{refl, ap}

@@ -1,4 +1,5 @@
 -- The residues modulo any q keep the laws of a commutative ring.
+-- It is in specs/, since an implementation of a trait cannot cite the proofs of its own crate.
 -- Main result: `residues_lawful`.
 use Rattle.std.specs.Prelude.{◌≡◌, ℕ, ◌+◌, ◌-◌, ◌*◌, ◌/◌, ◌%◌, ◌<◌, ◌≤◌}
 use Rattle.std.proofs.Common.{sym, ap, ◌∙◌, add-zero, mul-one, add_comm, add_assoc, mul_comm, mul_assoc, mul-add, add-mul, mod-lt, mod-eq_of_lt, arith}

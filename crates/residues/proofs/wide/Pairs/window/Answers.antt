@@ -16,7 +16,7 @@ loop-m-init g c k h =
     let at : ℕ = 32 * c.args.i in
     let lo : ℕ = c.first_pair-m.result in
     let low : (0 < lo) → length p.b.now + 2 * lo ≤ at + 1 = c.first_pair-m.ensures in
-    let most : 2 * lo ≤ length xs = elim (cases_lt 0 lo) [ inl y ↦ omega (arith, low y, c.requires.near) | inr y ↦ omega arith ] in
+    let most : 2 * lo ≤ length xs = grind (arith, low, c.requires.near) in
     let sum : ℕ = pair_sum (drop (2 * lo) xs) p.numbers.now (190 + (at + k) - 2 * lo) in
     ap (λ n. n + sum) (get_or-replicate {A = ℕ} 32 k 0 0 h)
     ∙ zero-add sum
@@ -36,8 +36,8 @@ pair_products-requires g c = record {
 
 -- one more pair of rows
 step : (g : Over) (c : After-pair_products g) (k : ℕ) → k < 32 →
-    (get_or c.loop-m.sums k 0 + get_or c.pair_products.result k 0) + pair_sum (drop (2 * (c.loop-m.m + 1)) c.args.rows.now) c.args.self.now.numbers.now (190 + ((32 * c.args.i) + k) - 2 * (c.loop-m.m + 1))
-    ≡ pair_sum c.args.rows.now c.args.self.now.numbers.now (190 + ((32 * c.args.i) + k))
+    (get_or c.loop-m.sums k 0 + get_or c.pair_products.result k 0) + pair_sum (drop (2 * (c.loop-m.m + 1)) c.args.rows.now) c.args.self.now.numbers.now (190 + (32 * c.args.i + k) - 2 * (c.loop-m.m + 1))
+    ≡ pair_sum c.args.rows.now c.args.self.now.numbers.now (190 + (32 * c.args.i + k))
 step g c k h =
     let near : c.loop-m.m < c.end_pair-m-end.result = c.loop-m-test.true in
     window_step c.loop-m.m k (32 * c.args.i) c.args.rows.now c.args.self.now.numbers.now c.loop-m.sums c.pair_products.result c.in_turn.result
@@ -47,11 +47,11 @@ step g c k h =
 pub plus-sums-requires : goal.plus-sums-requires
 plus-sums-requires g c k h =
     let p = c.args.self.now in
-    omega (arith, step g c k h, pair_bound 21068100 4590 c.args.rows.now p.numbers.now (190 + ((32 * c.args.i) + k)) c.requires.group.small p.small refl, c.requires.group.few)
+    omega (arith, step g c k h, pair_bound 21068100 4590 c.args.rows.now p.numbers.now (190 + (32 * c.args.i + k)) c.requires.group.small p.small refl, c.requires.group.few)
 
 pub loop-m-preserved : goal.loop-m-preserved
 loop-m-preserved g c k h =
-    ap (λ n. n + pair_sum (drop (2 * (c.loop-m.m + 1)) c.args.rows.now) c.args.self.now.numbers.now (190 + ((32 * c.args.i) + k) - 2 * (c.loop-m.m + 1))) (c.plus-sums.ensures k h)
+    ap (λ n. n + pair_sum (drop (2 * (c.loop-m.m + 1)) c.args.rows.now) c.args.self.now.numbers.now (190 + (32 * c.args.i + k) - 2 * (c.loop-m.m + 1))) (c.plus-sums.ensures k h)
     ∙ step g (goal.at.loop-m-preserved g c).After-pair_products k h
 
 total : (g : Over) (c : After-loop-m g) (k : ℕ) → k < 32 → get_or c.loop-m.sums k 0 ≡ pair_sum c.args.rows.now c.args.self.now.numbers.now (190 + (32 * c.args.i + k))
@@ -63,9 +63,7 @@ total g c k h =
     let hi : ℕ = c.end_pair-m-end.result in
     let low : (0 < lo) → length p.b.now + 2 * lo ≤ at + 1 = c.first_pair-m.ensures in
     let enough : (2 * hi + 1 < length xs) → at + 32 ≤ 2 * hi = c.end_pair-m-end.ensures.enough in
-    let order : lo ≤ hi =
-    elim (cases_lt (2 * hi + 1) (length xs))
-    [ inl y ↦ elim (cases_lt 0 lo) [ inl z ↦ omega (arith, low z, enough y) | inr z ↦ omega arith ] | inr y ↦ elim (cases_lt 0 lo) [ inl z ↦ omega (arith, low z, c.requires.near, c.requires.group.even) | inr z ↦ omega arith ] ] in
+    let order : lo ≤ hi = grind (arith, low, enough, c.requires.near, c.requires.group.even, c.end_pair-m-end.ensures.most) in
     let e : c.loop-m.m ≡ hi = omega (arith, c.loop-m-test.false, c.loop-m.auto.m-end order) in
     let none : pair_sum (drop (2 * hi) xs) p.numbers.now (190 + (at + k) - 2 * hi) ≡ 0 =
     elim (cases_lt (2 * hi + 1) (length xs)) [
