@@ -1,5 +1,5 @@
 -- Sums of products of rows and pairs.
--- Main results: `pair_coef`, `pair_low`, `pair_skip`, `pair_end`, `pair_bound`, `window_step`.
+-- Main results: `at_most_chunk`, `pair_coef`, `pair_low`, `pair_skip`, `pair_end`, `pair_bound`, `window_step`.
 use Rattle.std.proofs.Common.{◌≡◌, ℕ, zero, suc, ◌+◌, ◌-◌, ◌*◌, ◌<◌, ◌≤◌, List, [], ◌∷◌, length, get_or, drop, sym, refl, ap, ◌∙◌, inl, inr, add_assoc, mul_comm, add-mul, mul-le-mul, arith}
 use lib.Lanes.{chunk}
 use Rattle.std.proofs.lemmas.Bool.{cases_lt}
@@ -9,7 +9,7 @@ use Rattle.field.specs.Meaning.{code}
 use Rattle.residues.specs.Sums.{AtMost, pair_sum, nat_coef, Spread}
 use Rattle.residues.proofs.Coefficients.{none, code_past}
 
--- what is at most m in a list is at most any n above in a part of it
+-- what is at most m in a list is at most any greater number in a part of it
 pub at_most_chunk : (m i n : ℕ) (xs : List ℕ) (top : ℕ) → m ≤ top → AtMost m xs → AtMost top (chunk i n xs)
 at_most_chunk m i n xs top l h k =
     elim (cases_lt k n) [
