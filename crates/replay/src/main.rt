@@ -23,18 +23,20 @@ mod sessions;
 use lines::{Line, Unread, read_line};
 use sessions::Session;
 use std::io;
-use std::io::{BufRead, BufReader};
+use std::io::Read;
 
 fn main(rt: HostRuntime) -> io::Result<()> {
     run(&rt)
 }
 
-/// Follows the input line by line, and performs the last script if no burn ended it.
+/// Reads the whole input, follows it line by line, and performs the last script if no burn ended it. Nothing is printed
+/// before the input ends: whoever writes a script to its end before reading the replies would else wait for ever.
 fn run(rt: &HostRuntime) -> io::Result<()> {
-    let input = BufReader::new(rt.alloc(), rt.stdin())?;
+    let mut text = Vec::new(rt.alloc());
+    rt.stdin().read_to_end(&mut text)?;
     let mut session = None;
-    for text in input.split(rt.alloc(), b'\n') {
-        session = follow(rt, session, &text?)?;
+    for line in text.split_inclusive(|byte| *byte == b'\n') {
+        session = follow(rt, session, line.strip_suffix(b"\n").unwrap_or(line))?;
     }
     if let Some(session) = session {
         session.perform(rt)?;
