@@ -45,6 +45,15 @@ pub struct Report {
     pub steps: u32,
 }
 
+impl Refusal {
+    /// The number, the entry and the steps of this refusal.
+    pub fn report(&self) -> Report
+        ensures { result ≡ report_of self.now }
+    {
+        Report::from(*self)
+    }
+}
+
 /// The number, the entry and the steps of a refusal.
 impl From<Refusal> for Report {
     ghost from_gives = { λ refusal report. report ≡ report_of refusal };
