@@ -2,7 +2,7 @@
 -- A tray has a degree p, a capacity and a count of entries, and is lent a sheet at each call.
 -- Main definitions: `open_asked`, `put_asked`, `take_back_asked`, `close_asked`, `draw_asked`, the questions of the calls in their order;
 -- `after_open`, `after_put`, `after_take_back`, `after_close`, `after_draw`, `after_burn`, what stands after them.
-use Rattle.std.specs.Prelude.{ℕ, zero, suc, pred, ◌+◌, ◌*◌, Bool, true, ◌&&◌, List, [], ◌∷◌, ◌++◌, length, is_some, Some, None, Ok, Err, Option, Result, ◌==◌, nat_le, nat_lt}
+use Rattle.std.specs.Prelude.{ℕ, zero, suc, pred, ◌+◌, ◌*◌, Bool, true, ◌&&◌, List, [], ◌∷◌, length, is_some, Some, None, Ok, Err, Option, Result, ◌==◌, nat_le, nat_lt}
 use Rattle.std.specs.Option.{unwrap_or}
 use Rattle.refusal.specs.declared.Refusal.{Refusal}
 use Rattle.refusal.specs.declared.Refusal.TheVariants.{Capacity, Sheet, Scratch, Length, NotACode, NoEntry, Full, Shelf, NoInverse}
@@ -161,7 +161,13 @@ module _ (K : Calculus) where
       ∷ []
 
   abbrev pub close_asked : ℕ → ℕ → List ℕ → ℕ → List (Option Refusal)
-  close_asked capacity count sheet scratch = inversion_asked capacity count sheet scratch ++ inverse_asked count sheet ∷ []
+  close_asked capacity count sheet scratch =
+      sheet_asked K.degree capacity sheet
+      ∷ scratch_asked scratch
+      ∷ entry_asked count
+      ∷ asked Shelf (coded_denominators count sheet)
+      ∷ inverse_asked count sheet
+      ∷ []
 
   abbrev pub draw_asked : ℕ → ℕ → List ℕ → List ℕ → ℕ → List (Option Refusal)
   draw_asked capacity count sheet out scratch =
