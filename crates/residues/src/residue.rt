@@ -51,7 +51,7 @@ where
     }
 
     fn product(a: &[u16], b: &[u16], out: &mut [u16]) {
-        if wide::fits(a, b, out) {
+        if wide::fits(a, b, out) && !wide::is_short(a, out) {
             wide::product::<Q>(a, b, out);
         } else {
             Self::product_by_terms(a, b, out);

@@ -38,6 +38,9 @@ const NUMBERS: usize = 5888;
 /// How many rows are in each group but the last.
 const GROUP: usize = 192;
 
+/// So many products of two coefficients take as long one by one as the arrays that the kernel clears first.
+const FEW: usize = 120;
+
 /// Two positions in turn. To interleave two vectors of one number each needs no table, but takes a quarter more
 /// instructions for each pair of rows.
 const TWOS: [usize; 64] = [
@@ -237,6 +240,16 @@ fn codes<const Q: u16>(a: &[u16], rows: &mut [u16])
     }
 }
 
+/// The least even number that is not below n.
+fn evened(n: usize) -> usize
+    requires { n ≤ ROWS }
+    ensures even { result % 2 ≡ 0 }
+    ensures enough { n ≤ result }
+    ensures most { result ≤ ROWS }
+{
+    n.next_multiple_of(2)
+}
+
 /// Whether the kernel takes lists of these lengths. Lengths are no secret.
 pub(crate) fn fits(a: &[u16], b: &[u16], out: &[u16]) -> bool
     ensures { IsTrue result ↔ (length a.now ≤ ROWS) × (length b.now ≤ TERMS) × (length out.now ≤ SUMS) }
@@ -244,7 +257,19 @@ pub(crate) fn fits(a: &[u16], b: &[u16], out: &[u16]) -> bool
     a.len() <= ROWS && b.len() <= TERMS && out.len() <= SUMS
 }
 
-/// The product of two lists, the constants first: as many coefficients as `out` has.
+/// Whether a product takes so few products of two coefficients that they are quicker one by one. Both ways write the
+/// same, so nothing is promised of it. Lengths are no secret.
+pub(crate) fn is_short(a: &[u16], out: &[u16]) -> bool
+    requires left { length a.now ≤ ROWS }
+    requires room { length out.now ≤ SUMS }
+{
+    let rows = a.len().min(out.len());
+    rows * (2 * out.len() - rows) / 2 < FEW
+}
+
+/// The product of two lists, the constants first: as many coefficients as `out` has. It is never inlined, so that a short
+/// product has none of its arrays on the stack.
+#[inline(never)]
 pub(crate) fn product<const Q: u16>(a: &[u16], b: &[u16], out: &mut [u16])
 where
     Residues<Q>: Prime<Q>,
@@ -259,6 +284,6 @@ where
     let mut rows = [0; ROWS];
     codes::<Q>(a, &mut rows);
     let mut sums = [0; SUMS];
-    pairs.add_groups(&rows[..a.len().next_multiple_of(2)], &mut sums);
+    pairs.add_groups(&rows[..evened(a.len())], &mut sums);
     out.copy_from_slice(&sums[..out.len()]);
 }
