@@ -1,16 +1,16 @@
 -- Which texts are numbers in decimal, and what they write.
--- Main results: `writing`; `text_read`, `number_read`.
-use Rattle.std.proofs.Common.{◌≡◌, ℕ, zero, suc, ◌^◌, ◌<◌, ◌≤◌, true, false, eqb, List, [], ◌∷◌, length, get_or, decimal, sym, ap, ◌∙◌, ap₂, subst, ⊎_elim, arith, Bor, Result, Ok, Err, MatchOption, MatchResult, IsUtf8}
+-- Main results: `writing`; `short_value`, `long_value`.
+use Rattle.std.proofs.Common.{◌≡◌, ℕ, zero, suc, ◌+◌, ◌*◌, ◌%◌, ◌<◌, ◌≤◌, true, false, eqb, List, [], ◌∷◌, length, get_or, decimal, refl, sym, ap, ◌∙◌, ap₂, ⊎_elim, arith}
+use Rattle.std.specs.Char.{digit_value}
 use Rattle.std.specs.Int.{IsInRange}
-use Rattle.std.specs.Result.{result_ok, OkIff}
+use Rattle.std.specs.List.{fold}
 use Rattle.std.specs.Str.{all_ascii_digits}
-use Rattle.std.specs.Str.Parse.{digits_value, ParsesUnsigned}
+use Rattle.std.specs.Str.Parse.{digits_value, digits_value_after}
 use Rattle.std.proofs.lemmas.Bool.{eqb-true, eqb-false, ne_eqb, cases_Bool, cond-true, cond-false}
-use Rattle.std.proofs.lemmas.Fmt.{decimal-digits_value, decimal_digit, first_decimal, digits_decimal, digits_value-decimal}
+use Rattle.std.proofs.lemmas.Fmt.{decimal-digits_value, length-decimal-le, decimal_digit, first_decimal, digits_decimal, digits_value-decimal}
 use Rattle.std.proofs.lemmas.List.{nil_from_length}
-use Rattle.std.proofs.lemmas.Str.{IsUtf8-from_ascii}
-use Rattle.std.proofs.lemmas.Str.Ascii.{IsAscii-from_reads}
-use Rattle.std.proofs.lemmas.Str.Parse.{IsNumeralModel, numerals_by_value, tells_all_ascii_digits, digit_at, parse_digits}
+use Rattle.std.proofs.lemmas.Str.{digit_value_digit}
+use Rattle.std.proofs.lemmas.Str.Parse.{IsNumeralModel, numerals_by_value, tells_all_ascii_digits, digit_at, digits_value_short}
 use Rattle.keytext.specs.Numbers.{is_decimal}
 
 own : IsNumeralModel (λ ds. all_ascii_digits ds ≡ true) (digits_value 10)
@@ -63,17 +63,27 @@ decimal_is (suc x) h = from_digits (decimal (suc x)) (digits_of_decimal (suc x) 
 
 pub ruleset writing = (writing_value, value_of_decimal, decimal_is)
 
--- a number in decimal, read as a text and that as a number of 16 bits
-module _ (ds : List ℕ) (is : is_decimal ds ≡ true) where
-  pub text_read : {E : Type 0} (r : Result (Bor (List ℕ)) E) (Q : E → Type 0) → MatchResult r (λ s. (s.now ≡ ds) × IsUtf8 ds) (λ e. ¬ (IsUtf8 ds) × Q e) → MatchOption (result_ok r) ⊥ (λ s. s.now ≡ ds)
-  text_read (Ok s) Q h = h.0
-  text_read (Err e) Q h =
-      let ascii = IsAscii-from_reads ds (length ds) (omega arith) (λ k l. omega (arith, digit_within ds k (parts ds is).digits l)) in
-      h.0 (IsUtf8-from_ascii ds ascii)
+-- a digit after those of n, in 16 bits
+abbrev pub read_on : ℕ → ℕ → ℕ
+read_on n d = (n * 10 % 65536 + d % 16) % 65536
 
-  pub number_read : {E : Type 0} (r : Result ℕ E) (text : List ℕ) → text ≡ ds → ParsesUnsigned 16 10 text r → MatchOption (result_ok r) (65536 ≤ digits_value 10 ds) (λ n. n ≡ digits_value 10 ds)
-  number_read r text e h = by r (parse_digits own 16 ds r (subst (λ t. ParsesUnsigned 16 10 t r) e h) (parts ds is).digits)
-    where
-      by : {E : Type 0} (r : Result ℕ E) → OkIff r ((0 < length ds) × (digits_value 10 ds < 2 ^ 16)) (digits_value 10 ds) → MatchOption (result_ok r) (65536 ≤ digits_value 10 ds) (λ n. n ≡ digits_value 10 ds)
-      by (Ok n) h = h.1
-      by (Err e) h = let fails : digits_value 10 ds < 65536 → ⊥ = λ small. h ((parts ds is).some, small) in omega arith
+read_after : (n : ℕ) (ds : List ℕ) → all_ascii_digits ds ≡ true → fold read_on (n % 65536) ds ≡ digits_value_after 10 n ds % 65536
+read_after n [] e = refl
+read_after n (d ∷ ds) e =
+    let here = tells_all_ascii_digits.parts d ds e in
+    let more : read_on (n % 65536) d ≡ (n * 10 + digit_value d) % 65536 = omega (arith, here.0, digit_value_digit d here.0) in
+    ap (λ m. fold read_on m ds) more ∙ read_after (n * 10 + digit_value d) ds here.1
+
+-- a number in decimal of at most four digits, read one after another, and one of more
+module _ (ds : List ℕ) (is : is_decimal ds ≡ true) where
+  pub short_value : length ds ≤ 4 → fold read_on 0 ds ≡ digits_value 10 ds
+  short_value h =
+      let digits = (parts ds is).digits in
+      omega (arith, read_after 0 ds digits, digits_value_short own ds 4 digits h)
+
+  pub long_value : 5 ≤ length ds → 10000 ≤ digits_value 10 ds
+  long_value h =
+      let p = parts ds is in
+      let fails : digits_value 10 ds < 10000 → ⊥ = λ small.
+      omega (arith, ap length (decimal-digits_value own ds p.digits p.some p.zero_alone (omega arith)), length-decimal-le 4 (digits_value 10 ds) (omega arith) (omega arith) (omega arith)) in
+      omega arith

@@ -1,15 +1,15 @@
-use Rattle.std.proofs.Common.{sym}
-use Rattle.std.proofs.lemmas.Option.{MatchOption-at_some, MatchOption-at_none}
-use Rattle.keytext.proofs.Decimals.{text_read, number_read}
+use Rattle.std.proofs.Common.{◌∙◌, arith, rules}
+use Rattle.std.proofs.lemmas.Iterator.{YieldsList-from_slice}
+use Rattle.std.proofs.lemmas.Iterator.Consumers.{fold_from_yields_List}
+use Rattle.std.proofs.lemmas.Nat.{and_mask}
+use Rattle.keytext.proofs.Decimals.{read_on, short_value, long_value}
 use Rattle.keytext.proofs.number.number_of.Goals as goal
 
-pub returns-in_err-ok : goal.returns-in_err-ok
-returns-in_err-ok c =
-    let read = text_read c.args.digits.now c.requires c.from_utf8.result _ c.from_utf8.ensures.cases in
-    absurd (MatchOption-at_none _ _ (sym c.in_err-ok.ensures.value) read)
+pub returns-in_default : goal.returns-in_default
+returns-in_default c =
+    let digits = c.args.digits.now in
+    fold_from_yields_List _ read_on 0 c.fold.result c.fold.ensures.ran (YieldsList-from_slice digits cc) (λ a x b q k. search (rules, and_mask x.now 4))
+    ∙ short_value digits c.requires (omega arith)
 
-pub returns : goal.returns
-returns c =
-    let read = text_read c.args.digits.now c.requires c.from_utf8.result _ c.from_utf8.ensures.cases in
-    let text = MatchOption-at_some _ _ _ (sym c.in_ok-ok.ensures.value) read in
-    rw c.ok-2.ensures.value (number_read c.args.digits.now c.requires c.parse.result _ text c.parse.ensures.value.0)
+pub returns-in-len5-up : goal.returns-in-len5-up
+returns-in-len5-up c = long_value c.args.digits.now c.requires (omega arith)
