@@ -11,7 +11,7 @@ ghost use Rattle.std.specs.Prelude.{◌≡◌, ◌+◌, ◌-◌, ◌*◌, ◌<�
 ghost use Rattle.std.specs.Option.{unwrap_or};
 ghost use Rattle.field.specs.Convolution.{tabulate};
 ghost use Rattle.field.specs.Meaning.{coded, all_codes};
-ghost use Rattle.divstep.specs.ReadOff.{inverse_of, IsInverse, NoInverseOf};
+ghost use Rattle.divstep.specs.ReadOff.{is_zero, inverse_of, IsInverse, NoInverseOf};
 
 use crate::run::Lists;
 use crate::starts::{set_one, set_reversed, set_reversed_modulus};
@@ -53,12 +53,19 @@ pub(crate) fn invert<F: Field>(
         scratch,
     };
     lists.run::<F>(2 * p - 1);
-    if lists.delta != 0 {
+    if !ended(lists.delta) {
         return None;
     }
     let c = F::reciprocal(f[0])?;
     read_off::<F>(v, c, out);
     Some(())
+}
+
+/// Whether the steps end with an inverse to read off.
+fn ended(delta: i32) -> bool
+    ensures { result ≡ is_zero delta }
+{
+    delta == 0
 }
 
 /// Writes coefficient p − k of v, times c, to each place k of the p places.

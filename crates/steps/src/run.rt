@@ -11,16 +11,28 @@
 //! coefficients of that product are left out; and the matrix of the run is multiplied from the left by
 //! that of the batch. These are a few products of long lists, which the field has a fast kernel for.
 
-ghost use Rattle.std.specs.Prelude.{◌≡◌, ◌+◌, ◌≤◌, unsigned_abs};
+ghost use Rattle.std.specs.Prelude.{◌≡◌, ◌+◌, ◌≤◌, slice_index, unsigned_abs};
+ghost use Rattle.field.specs.Convolution.{tabulate};
 ghost use Rattle.field.specs.Meaning.{coded};
 ghost use Rattle.divstep.specs.Batches.{jump as jumped, batched};
-ghost use Rattle.divstep.specs.Steps.{not_zero};
+ghost use Rattle.divstep.specs.Steps.{lists, begins, steps, not_zero};
+ghost use Rattle.window.specs.Windows.{held_in};
 ghost use Rattle.steps.specs.Columns.{IsColumn};
 
 use crate::apply::{apply, first_codes};
 use field::Field;
-use window::BATCH;
 use window::batch::batch;
+use window::{BATCH, Window};
+
+/// The first m steps on the windows of f and g.
+fn first_steps<F: Field>(delta: i32, m: usize, f: &[u16], g: &[u16]) -> Window
+    requires short { m ≤ 16 }
+    requires small { unsigned_abs delta ≤ 50000 }
+    ensures state { held_in result ≡ steps (lists (coded F.Field.arithmetic)) not_zero m (begins (coded F.Field.arithmetic) 16 delta (tabulate 16 (λ k. slice_index f.now k)) (tabulate 16 (λ k. slice_index g.now k))) }
+    ensures small { unsigned_abs result.delta ≤ unsigned_abs delta + m }
+{
+    batch::<F>(delta, first_codes(f), first_codes(g), m)
+}
 
 /// δ, f and g, the rows (u, v) and (q, r) of the matrix, and scratch for the products with a batch's matrix.
 /// The bound of δ grows with each step, so the methods ask for it.
@@ -53,7 +65,7 @@ impl Lists<'_> {
         // Of a field's list nothing is known once it was lent to be read; of a variable's, it is.
         let f = &mut *self.f;
         let g = &mut *self.g;
-        let w = batch::<F>(self.delta, first_codes(f), first_codes(g), m);
+        let w = first_steps::<F>(self.delta, m, f, g);
         self.delta = w.delta;
         apply::<F>(&w, m, f, g, self.scratch);
         apply::<F>(&w, 0, self.u, self.q, self.scratch);

@@ -1,22 +1,12 @@
 -- What a step makes of a window.
--- Main results: `swapped_is`, `counted`, `down_is`, `up_is`.
-use Rattle.std.proofs.Common.{◌≡◌, ℕ, zero, suc, ◌+◌, ◌-◌, ◌^◌, ◌<◌, Bool, true, false, cond, List, [], ◌∷◌, ◌++◌, length, get_or, drop, take, ℤ, pos, ◌+ℤ◌, neg_ℤ, nat_abs, refl, arith, length-append, w32, to_z, of_z}
+-- Main results: `down_is`, `up_is`, `reduced_is`.
+use Rattle.std.proofs.Common.{◌≡◌, ℕ, zero, suc, ◌-◌, ◌<◌, List, [], ◌∷◌, ◌++◌, length, get_or, drop, take, ℤ, pos, ◌+ℤ◌, refl, ◌∙◌, arith, length-append}
 use Rattle.std.proofs.lemmas.List.{length-take, get_or-take}
-use borrow.Author.Differences.{ints}
 use Rattle.field.specs.Rings.{Operations}
-use Rattle.field.specs.Convolution.{tabulate, at}
-use Rattle.field.proofs.Tables.{tabulate_is, padded}
-use Rattle.divstep.specs.Steps.{State, swapped, state_of, shifted_at}
-
--- f and g, u and q, and v and r, each two in each other's place if b
-pub swapped_is : {A : Type 0} (b : Bool) (s : State A) (d : ℤ) (fg uq vr : A × A) → d ≡ cond b (neg_ℤ s.δ) s.δ → fg ≡ cond b (s.g, s.f) (s.f, s.g) → uq ≡ cond b (s.q, s.u) (s.u, s.q) → vr ≡ cond b (s.r, s.v) (s.v, s.r) → state_of d fg.0 fg.1 uq.0 vr.0 uq.1 vr.1 ≡ swapped b s
-swapped_is true s d fg uq vr hd hf hu hv i = state_of (hd i) (hf i).0 (hf i).1 (hu i).0 (hv i).0 (hu i).1 (hv i).1
-swapped_is false s d fg uq vr hd hf hu hv i = state_of (hd i) (hf i).0 (hf i).1 (hu i).0 (hv i).0 (hu i).1 (hv i).1
-
--- δ or −δ, and one more
-pub counted : (b : Bool) (z d : ℤ) → nat_abs z + 1 < 2 ^ 31 → d ≡ cond b (neg_ℤ z) z → to_z w32 (of_z w32 (to_z w32 (of_z w32 d) +ℤ pos 1)) ≡ d +ℤ pos 1
-counted true z d h e = omega (arith, ints)
-counted false z d h e = omega (arith, ints)
+use Rattle.field.specs.Convolution.{tabulate, at, mixed}
+use Rattle.field.specs.Meaning.{Arithmetic, coded}
+use Rattle.field.proofs.Tables.{length_tabulate, tabulate_is, padded}
+use Rattle.divstep.specs.Steps.{State, lists, reduced, state_of, shifted_at, not_zero}
 
 -- a / x, place by place
 pub down_is : (n : ℕ) (a : List ℕ) → length a ≡ n → 0 < n → drop 1 a ++ 0 ∷ [] ≡ tabulate (length a) (λ k. get_or a (suc k) 0)
@@ -30,3 +20,25 @@ up_is n O a e h = tabulate_is _ _ (O.zero ∷ take (n - 1) a) O.zero (omega (ari
     go : (k : ℕ) → k < length a → get_or (O.zero ∷ take (n - 1) a) k O.zero ≡ shifted_at O (at O a) k
     go zero l = refl
     go (suc k) l = get_or-take (n - 1) a k O.zero (omega arith)
+
+-- a window after the reduction, list by list
+pub reduced_is : (A : Arithmetic) (s : State (List ℕ)) (d : ℤ) (f g u v q r : List ℕ) →
+    length s.g ≡ 16 →
+    length s.u ≡ 17 →
+    length s.v ≡ 17 →
+    d ≡ s.δ +ℤ pos 1 →
+    f ≡ s.f →
+    g ≡ drop 1 (mixed (coded A) (get_or s.f 0 0) s.g (get_or s.g 0 0) s.f) ++ 0 ∷ [] →
+    u ≡ 0 ∷ take 16 s.u →
+    v ≡ 0 ∷ take 16 s.v →
+    q ≡ mixed (coded A) (get_or s.f 0 0) s.q (get_or s.g 0 0) s.u →
+    r ≡ mixed (coded A) (get_or s.f 0 0) s.r (get_or s.g 0 0) s.v →
+    state_of d f g u v q r ≡ reduced (lists (coded A)) not_zero s
+unfolding coded
+reduced_is A s d f g u v q r lg lu lv hd hf hg hu hv hq hr =
+    let O = coded A in
+    let m = mixed O (get_or s.f 0 0) s.g (get_or s.g 0 0) s.f in
+    let g' = hg ∙ down_is 16 m (length_tabulate (length s.g) _ ∙ lg) (omega arith) in
+    let u' = hu ∙ up_is 17 O s.u lu (omega arith) in
+    let v' = hv ∙ up_is 17 O s.v lv (omega arith) in
+    λ i. state_of (hd i) (hf i) (g' i) (u' i) (v' i) (hq i) (hr i)

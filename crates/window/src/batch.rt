@@ -16,7 +16,7 @@ pub fn batch<F: Field>(delta: i32, f: [u16; BATCH], g: [u16; BATCH], m: usize) -
     ensures state { held_in result ≡ steps (lists (coded F.Field.arithmetic)) not_zero m (begins (coded F.Field.arithmetic) 16 delta f g) }
     ensures small { unsigned_abs result.delta ≤ unsigned_abs delta + m }
 {
-    let mut w = Window::new(delta, f, g);
+    let mut w = Window::new::<F>(delta, f, g);
     for _ in 0..m {
         w = w.step::<F>();
     }
